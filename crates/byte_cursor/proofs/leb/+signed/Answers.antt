@@ -1,8 +1,8 @@
-use Rattle.std.proofs.Common.{get_or, ◌≡◌, ℤ, pos, ◌^◌, ◌*◌, ◌+◌, ◌≤◌, ◌<◌, ◌-◌, ◌*ℤ◌, ◌+ℤ◌, to_z, of_z, ap, sym, subst, arith, rules}
+use Rattle.std.proofs.Common.{get_or, ◌^◌, ◌-◌, arith}
 use Rattle.std.specs.Prelude.{FitsSigned}
 use Rattle.std.specs.Int.{w64}
 use Rattle.std.proofs.lemmas.Int.{ints, to_z-of_z}
-use Rattle.byte_cursor.specs.Integers.{IsWithin, signed_last, signed_joined}
+use Rattle.byte_cursor.specs.Integers.{signed_last, signed_joined}
 use Rattle.byte_cursor.proofs.Laws.{reads_on}
 use Rattle.byte_cursor.proofs.Bounds.{signed_limit, product_fits, written}
 use Rattle.byte_cursor.proofs.leb.+signed.Goals as goal

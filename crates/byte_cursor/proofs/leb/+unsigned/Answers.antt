@@ -1,4 +1,4 @@
-use Rattle.std.proofs.Common.{◌≡◌, ◌^◌, ◌*◌, ◌+◌, ◌≤◌, ◌<◌, ◌-◌, arith}
+use Rattle.std.proofs.Common.{arith}
 use Rattle.byte_cursor.proofs.Bounds.{joined_below}
 use Rattle.byte_cursor.proofs.leb.+unsigned.Goals as goal
 

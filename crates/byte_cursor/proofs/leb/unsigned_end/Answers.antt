@@ -1,4 +1,4 @@
-use Rattle.std.proofs.Common.{◌≡◌, ◌^◌, ◌*◌, ◌%◌, ◌≤◌, ◌<◌, arith}
+use Rattle.std.proofs.Common.{arith}
 use Rattle.std.proofs.lemmas.Nat.{one_shl}
 use Rattle.byte_cursor.proofs.Bounds.{unsigned_some, pow_le}
 use Rattle.byte_cursor.proofs.leb.unsigned_end.Goals as goal
