@@ -1,2 +1,5 @@
 pub mod Entry
 pub mod Errno
+pub mod Files
+pub mod MemoryObjects
+pub mod Outside
