@@ -3,3 +3,4 @@ pub mod Errno
 pub mod Files
 pub mod MemoryObjects
 pub mod Outside
+pub mod ShelfLog

@@ -1,7 +1,9 @@
 -- What the objects of the outside in memory hold.
-use Rattle.std.specs.Prelude.{ℕ, ◌<◌, ◌≡◌, ◌⊎◌, ◌+◌, List, Contains, length, min}
+use Rattle.std.specs.Prelude.{ℕ, ◌<◌, ◌≡◌, ◌⊎◌, ◌+◌, ◌-◌, ◌++◌, ◌∷◌, [], List, Contains, length, min}
 use Rattle.wx_types.specs.Files.{Files}
 use Rattle.wx_types.specs.Outside.{next_count}
+use Rattle.wx_types.specs.declared.errors.ShelfError.{ShelfError}
+use Rattle.wx_types.specs.declared.errors.ShelfError.TheVariants.{Failed, TooLong, Memory}
 
 -- which calls of an object are to fail, and how many it had
 pub record Plan : Type 0 where
@@ -48,3 +50,26 @@ pub record ShelfState : Type 0 where
   pub room : ℕ
   pub writes : ℕ
   pub plan : Plan
+
+-- a write of these bytes under this name fails: it is one that is to fail, or passes what is left of the room or the writes
+abbrev pub ShelfFails : ShelfState → List ℕ → List ℕ → Type 0
+ShelfFails shelf name bytes = NextFails shelf.plan ⊎ (shelf.room < length name + length bytes) ⊎ (shelf.writes ≡ 0)
+
+-- the shelf after a write
+abbrev pub after_write : ShelfState → List ℕ → List ℕ → ShelfState
+after_write shelf name bytes = record {
+  files = shelf.files ++ (name, bytes) ∷ [];
+  room = shelf.room - (length name + length bytes);
+  writes = shelf.writes - 1;
+  plan = after_call shelf.plan;
+}
+
+-- the shelf after a read that gave a file
+abbrev pub after_answer : ShelfState → ShelfState
+after_answer shelf = record shelf { plan = after_call shelf.plan }
+
+-- the shelf after a read that gave this error
+abbrev pub after_error : ShelfError → ShelfState → ShelfState
+after_error Failed shelf = record shelf { plan = after_fault shelf.plan }
+after_error TooLong shelf = after_answer shelf
+after_error Memory shelf = after_answer shelf
