@@ -21,3 +21,6 @@ pub use memory_source::MemSource;
 pub use outside::{Shelf, Sink, Source, write_whole};
 pub use requests::{NodeKind, Request, Task};
 pub use text_list::Texts;
+
+#[cfg(test)]
+mod tests;
