@@ -1,0 +1,6 @@
+pub mod Entry
+pub mod Errno
+pub mod Files
+pub mod MemoryObjects
+pub mod Outside
+pub mod ShelfLog
