@@ -1,8 +1,9 @@
 -- The rows of the operators that read signed, and of the difference, in std's words. The divisions' stand in `Quotients`.
-use Rattle.std.proofs.Common.{◌≡◌, ℕ, ◌+◌, ◌-◌, ◌*◌, ◌%◌, ◌^◌, ◌<◌, Bool, true, false, pos, ◌-ℤ◌, int_lt, int_le, FitsSigned, sym, refl, ap, ap₂, ◌∙◌, arith}
-use Rattle.std.proofs.Math.Nat.{mod-eq_of_lt}
-use Rattle.std.specs.Int.{Width, w32, w64, cast_signed, cast_unsigned, from_bool, int_shr, int_div_euclid}
-use mir.Val.{bits}
+use Rattle.std.proofs.Common.{◌≡◌, ℕ, ◌+◌, ◌-◌, ◌*◌, ◌%◌, ◌^◌, ◌<◌, ◌≤◌, Bool, true, false, pos, ◌-ℤ◌, int_lt, int_le, FitsSigned, sym, refl, ap, ap₂, ◌∙◌, arith}
+use Rattle.std.proofs.Math.Nat.{mod-eq_of_lt, lt_of_lt_of_le}
+use Rattle.std.proofs.Math.Pow.{pow_mono}
+use Rattle.std.specs.Int.{Width, cast_signed, cast_unsigned, from_bool, int_shr, int_div_euclid}
+use mir.Val.{bits, hbits}
 use mir.ValLaws.{sfits_le}
 use Rattle.std.specs.Int.Signed.{mag_shr}
 use Rattle.int_ops.specs.Representation.{modulo, truth}
@@ -48,10 +49,10 @@ ishr_s_row w i j h =
     cast_unsigned_is w _ fits ∙ ap (modulo (bits w)) (int_shr-is (cast_signed w i) k)
     ∙ ap (λ x. modulo (bits w) (int_div_euclid x (pos (2 ^ k)))) (cast_signed_is w i h)
 
--- a number of 32 bits reads the same in 64
-pub extend_s_row : (i : ℕ) → i < 2 ^ 32 → cast_unsigned w64 (cast_signed w32 i) ≡ extend_s 32 64 i
+-- a number of a narrower width reads the same in a wider one
+pub extend_s_row : (w w' : Width) (i : ℕ) → hbits w ≤ hbits w' → i < 2 ^ bits w → cast_unsigned w' (cast_signed w i) ≡ extend_s (bits w) (bits w') i
 unfolding extend_s
-extend_s_row i h =
-    let narrow = fits_signed w32 i h in
-    let fits : FitsSigned w64 (cast_signed w32 i) = record { sfits = omega (arith, narrow.sfits) } in
-    cast_unsigned_is w64 _ fits ∙ ap (modulo 64) (cast_signed_is w32 i h)
+extend_s_row w w' i wider h =
+    let narrow = fits_signed w i h in
+    let fits : FitsSigned w' (cast_signed w i) = record { sfits = lt_of_lt_of_le narrow.sfits (pow_mono wider) } in
+    cast_unsigned_is w' _ fits ∙ ap (modulo (bits w')) (cast_signed_is w i h)

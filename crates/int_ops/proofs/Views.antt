@@ -1,12 +1,13 @@
 -- The signed view and `modulo` against std's words for casts, and what follows for the signed operators.
 use Rattle.std.proofs.Common.{◌≡◌, ℕ, suc, ◌+◌, ◌-◌, ◌*◌, ◌/◌, ◌%◌, ◌^◌, ◌<◌, ◌≤◌, Bool, true, false, cond, ltb, ℤ, pos, negsuc, neg_ℤ, ◌+ℤ◌, ◌-ℤ◌, ◌*ℤ◌, unsigned_abs, int_div, int_rem, FitsSigned, sym, refl, ap, ◌∙◌, subst, arith, if◌then◌else◌}
-use Rattle.std.proofs.lemmas.Int.{ints, int_rem_euclid_is, quot-rem}
+use Rattle.std.proofs.lemmas.Int.{ints, int_rem_euclid_is, quot-rem, to_z-of_z}
 use Rattle.std.proofs.lemmas.Nat.{pow_pos, pow_below, div_below, div-add-mod'}
 use Rattle.std.proofs.lemmas.Bool.{le-ltb}
 use Rattle.std.specs.Bool.{beq}
 use Rattle.std.proofs.Math.Nat.{mod-eq_of_lt, add-mul}
 use Rattle.std.proofs.Math.IntN.{*ℤ_comm}
 use Rattle.std.specs.Int.{Width, w8, w16, w32, w64, w128, cast_signed, cast_unsigned, int_div_euclid, int_shr}
+use mir.ValLaws.{of_z_fits}
 use mir.Val.{bits, hbits}
 use Rattle.int_ops.specs.Representation.{signed, modulo}
 use Rattle.int_ops.specs.Arithmetic.{truncated_quotient}
@@ -59,6 +60,12 @@ cast_unsigned_is w (negsuc n) h =
     let small : n < 2 ^ bits w = omega (arith, h.sfits, half_below w) in
     let less : 2 ^ bits w - suc n ≡ 2 ^ bits w - 1 - n = omega arith in
     less ∙ ap (λ k. 2 ^ bits w - 1 - k) (sym (mod-eq_of_lt small))
+
+-- the signed view and its inverse
+pub signed-modulo : (w : Width) (z : ℤ) → FitsSigned w z → signed (bits w) (modulo (bits w) z) ≡ z
+signed-modulo w z h =
+    let number : cast_unsigned w z < 2 ^ bits w = (of_z_fits w z h).fits in
+    ap (signed (bits w)) (sym (cast_unsigned_is w z h)) ∙ sym (cast_signed_is w (cast_unsigned w z) number) ∙ to_z-of_z w z h
 
 -- with d whole multiples more on one side, the difference is a natural
 shifted : (M a b c a0 a1 b0 b1 d : ℕ) → a1 * M + a0 ≡ a → b1 * M + b0 ≡ b → b ≤ c * M → b1 + d ≡ c

@@ -1,4 +1,4 @@
--- The conversions of 4.3.2 between integers of M bits and integers of N bits.
+-- The conversions of 4.3.4 between integers of M bits and integers of N bits.
 use Rattle.std.specs.Prelude.{ℕ, ◌%◌, ◌^◌}
 use Rattle.int_ops.specs.Representation.{signed, modulo}
 

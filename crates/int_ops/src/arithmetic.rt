@@ -41,7 +41,7 @@ pub fn i32_div_s(a: u32, b: u32) -> Result<u32, Cause>
     if b == 0 {
         return Err(Cause::DivideByZero);
     }
-    match a.cast_signed().checked_div(b.cast_signed()) {
+    match i32::checked_div(a.cast_signed(), b.cast_signed()) {
         Some(quotient) => Ok(quotient.cast_unsigned()),
         None => Err(Cause::Overflow),
     }
@@ -67,11 +67,8 @@ pub fn i32_rem_s(a: u32, b: u32) -> Result<u32, Cause>
     if b == 0 {
         return Err(Cause::DivideByZero);
     }
-    Ok(
-        a.cast_signed()
-            .wrapping_rem(b.cast_signed())
-            .cast_unsigned(),
-    )
+    let remainder = i32::wrapping_rem(a.cast_signed(), b.cast_signed());
+    Ok(remainder.cast_unsigned())
 }
 
 /// The remainder of `a` by `b`.
@@ -116,7 +113,7 @@ pub fn i64_div_s(a: u64, b: u64) -> Result<u64, Cause>
     if b == 0 {
         return Err(Cause::DivideByZero);
     }
-    match a.cast_signed().checked_div(b.cast_signed()) {
+    match i64::checked_div(a.cast_signed(), b.cast_signed()) {
         Some(quotient) => Ok(quotient.cast_unsigned()),
         None => Err(Cause::Overflow),
     }
@@ -142,11 +139,8 @@ pub fn i64_rem_s(a: u64, b: u64) -> Result<u64, Cause>
     if b == 0 {
         return Err(Cause::DivideByZero);
     }
-    Ok(
-        a.cast_signed()
-            .wrapping_rem(b.cast_signed())
-            .cast_unsigned(),
-    )
+    let remainder = i64::wrapping_rem(a.cast_signed(), b.cast_signed());
+    Ok(remainder.cast_unsigned())
 }
 
 /// The remainder of `a` by `b`.

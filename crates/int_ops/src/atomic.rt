@@ -15,9 +15,9 @@ pub enum AtomicOp {
     Sub,
     /// The bits that both have.
     And,
-    /// The bits that either has.
+    /// The bits that one of them or both have.
     Or,
-    /// The bits that one of them has.
+    /// The bits that exactly one of them has.
     Xor,
     /// The argument.
     Exchange,

@@ -28,21 +28,21 @@ pub fn i32_popcnt(a: u32) -> u32
     a.count_ones()
 }
 
-/// The bits that `a` and `b` both have.
+/// The bits that both `a` and `b` have.
 pub fn i32_and(a: u32, b: u32) -> u32
     ensures { result ≡ iand 32 a b }
 {
     a & b
 }
 
-/// The bits that `a` or `b` has.
+/// The bits that `a` or `b` or both have.
 pub fn i32_or(a: u32, b: u32) -> u32
     ensures { result ≡ ior 32 a b }
 {
     a | b
 }
 
-/// The bits that one of `a` and `b` has.
+/// The bits that exactly one of `a` and `b` has.
 pub fn i32_xor(a: u32, b: u32) -> u32
     ensures { result ≡ ixor 32 a b }
 {
@@ -105,21 +105,21 @@ pub fn i64_popcnt(a: u64) -> u64
     u64::from(a.count_ones())
 }
 
-/// The bits that `a` and `b` both have.
+/// The bits that both `a` and `b` have.
 pub fn i64_and(a: u64, b: u64) -> u64
     ensures { result ≡ iand 64 a b }
 {
     a & b
 }
 
-/// The bits that `a` or `b` has.
+/// The bits that `a` or `b` or both have.
 pub fn i64_or(a: u64, b: u64) -> u64
     ensures { result ≡ ior 64 a b }
 {
     a | b
 }
 
-/// The bits that one of `a` and `b` has.
+/// The bits that exactly one of `a` and `b` has.
 pub fn i64_xor(a: u64, b: u64) -> u64
     ensures { result ≡ ixor 64 a b }
 {

@@ -1,4 +1,4 @@
-//! The conversions between `i32` and `i64` (WebAssembly Core 1.0, 4.3.2).
+//! The conversions between `i32` and `i64` (WebAssembly Core 1.0, 4.3.4).
 
 #![tactic(auto, unfolding(crate::specs::Conversion::wrap, crate::specs::Conversion::extend_u))]
 

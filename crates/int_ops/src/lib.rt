@@ -2,7 +2,7 @@
 //!
 //! There is one function for each instruction, named as the instruction with `_` for the point, with the operands in their
 //! order, and `combine` for the atomic read-modify-write operators. No function allocates, and all but the divisions and the
-//! remainders have a result for all operands. What each gives is defined in `specs/` by WebAssembly Core 1.0, 4.3.2.
+//! remainders have a result for all operands. What each gives is defined in `specs/` by WebAssembly Core 1.0, 4.3.2 and 4.3.4.
 #![tactic(auto)]
 
 mod arithmetic;
@@ -29,3 +29,6 @@ pub use comparison::{
 };
 pub use conversion::{i32_wrap_i64, i64_extend_i32_s, i64_extend_i32_u};
 pub use trap::Cause;
+
+#[cfg(test)]
+mod tests;

@@ -10,5 +10,5 @@ returns-then-b-eq0-clause-value c = by_zero c.args.b _ _ c.if-b-eq0.true
 pub returns-clause-value : goal.returns-clause-value
 returns-clause-value c =
     irem_s-is w64 c.args.a c.args.b c.cast_signed.result c.cast_signed-2.result c.ranges.a.fits c.ranges.b.fits c.cast_signed.ensures
-    c.cast_signed-2.ensures c.if-b-eq0.false c.wrapping_rem.result c.cast_unsigned.result (record { sfits = c.wrapping_rem.type_inv })
-    c.wrapping_rem.ensures c.cast_unsigned.ensures
+    c.cast_signed-2.ensures c.if-b-eq0.false c.wrapping_rem-remainder.result c.cast_unsigned.result (record { sfits = c.wrapping_rem-remainder.type_inv })
+    c.wrapping_rem-remainder.ensures c.cast_unsigned.ensures
