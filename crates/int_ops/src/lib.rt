@@ -1,0 +1,34 @@
+//! The integer operators of WebAssembly, on `u32` for `i32` and `u64` for `i64`.
+//!
+//! There is one function for each instruction, named as the instruction with `_` for the point, with the operands in their
+//! order, and `combine` for the atomic read-modify-write operators. No function allocates, and all but the divisions and the
+//! remainders have a result for all operands. What each gives is defined in `specs/` by WebAssembly Core 1.0, 4.3.2 and 4.3.4.
+#![tactic(auto)]
+
+mod arithmetic;
+mod atomic;
+mod bitwise;
+mod comparison;
+mod conversion;
+mod trap;
+
+pub use arithmetic::{
+    i32_add, i32_div_s, i32_div_u, i32_mul, i32_rem_s, i32_rem_u, i32_sub, i64_add, i64_div_s,
+    i64_div_u, i64_mul, i64_rem_s, i64_rem_u, i64_sub,
+};
+pub use atomic::{AtomicOp, combine};
+pub use bitwise::{
+    i32_and, i32_clz, i32_ctz, i32_or, i32_popcnt, i32_rotl, i32_rotr, i32_shl, i32_shr_s,
+    i32_shr_u, i32_xor, i64_and, i64_clz, i64_ctz, i64_or, i64_popcnt, i64_rotl, i64_rotr, i64_shl,
+    i64_shr_s, i64_shr_u, i64_xor,
+};
+pub use comparison::{
+    i32_eq, i32_eqz, i32_ge_s, i32_ge_u, i32_gt_s, i32_gt_u, i32_le_s, i32_le_u, i32_lt_s,
+    i32_lt_u, i32_ne, i64_eq, i64_eqz, i64_ge_s, i64_ge_u, i64_gt_s, i64_gt_u, i64_le_s, i64_le_u,
+    i64_lt_s, i64_lt_u, i64_ne,
+};
+pub use conversion::{i32_wrap_i64, i64_extend_i32_s, i64_extend_i32_u};
+pub use trap::Cause;
+
+#[cfg(test)]
+mod tests;

@@ -1,0 +1,3 @@
+mod bits_32;
+mod bits_64;
+mod conversions;
