@@ -1,0 +1,6 @@
+pub mod Memory
+pub mod GuestThread
+pub mod Step
+pub mod Fits
+pub mod Stops
+pub mod Left

@@ -1,0 +1,6 @@
+pub mod Split
+pub mod Determined
+pub mod Maps
+pub mod Clauses
+pub mod Turns
+pub mod Whole

@@ -1,0 +1,11 @@
+pub mod Process
+pub mod Asked
+pub mod Kernel
+pub mod Answer
+pub mod Settle
+pub mod Apply
+pub mod World
+pub mod Boot
+pub mod Run
+pub mod Weight
+pub mod OneProcess

@@ -1,0 +1,234 @@
+-- The answer to a command, case by case.
+use Rattle.std.proofs.Common.{◌≡◌, ◌≢◌, ◌<◌, ◌≤◌, ◌↔◌, ℕ, List, [], ◌∷◌, ◌++◌, length, take, cond, Option, Some, None, Result, Ok, Err, refl, sym, ap, subst, ◌∙◌, arith}
+use Rattle.std.proofs.lemmas.List.{take_at}
+use Rattle.std.specs.Ordering.{nat_cmp}
+use Rattle.std.specs.Cmp.Lexicographic.{slice_cmp, nat_list_cmp_total}
+use Rattle.std.specs.FinMap.{get, insert, empty, get-insert}
+use Rattle.std.proofs.lemmas.Cmp.{eq_by_cmp_equiv}
+use Rattle.wx_types.specs.Files.{Files, file_named}
+use Rattle.wx_types.specs.declared.entries.Entry.{Entry}
+use Rattle.wasm_decode.specs.ThinModule.{ThinModule}
+use Rattle.wasm_decode.specs.ThinGrammar.{SpellsThin, preamble}
+use Rattle.wasm_decode.specs.declared.fault.ThinFault.{ThinFault}
+use Rattle.wasm_decode.specs.declared.fault.ThinFault.TheVariants.{Malformed, NotYet, Memory as NoMemory}
+use Rattle.runner.specs.declared.one.Why.{Why}
+use Rattle.runner.specs.declared.one.Why.TheVariants.{Exited as ExitedWhy, Memory as MemoryWhy}
+use Rattle.runner.specs.Kernel.{End, Exited as ExitedEnd}
+use Rattle.runner.specs.World.{World}
+use Rattle.runner.specs.Boot.{Boot, Loads, boot_world}
+use Rattle.runner.specs.Run.{Run, RunsTo, EachReply, InOrder, EndsAs, StopsOf}
+use Rattle.runner.specs.OneProcess.{Begins}
+use Rattle.wasix_run.specs.declared.reason.Reason.{Reason}
+use Rattle.wasix_run.specs.declared.reason.Reason.TheVariants.{Exited, Usage, ShelfFault, TooLong, BadProgram, Memory}
+use Rattle.wasix_run.specs.Line.{One, line}
+use Rattle.wasix_run.specs.Outside.{Names, Boots, RunEnds, one_boot, program_path, program_limit}
+use Rattle.wasix_run.specs.Causes.{ExactlyWhere, IsTooLong, IsMalformed, IsNotYet}
+use Rattle.wasix_run.specs.Loading.{Loading, HasProgram, IsLoadFault}
+use Rattle.wasix_run.specs.Serves.{Serves, Ran, reason_of}
+
+-- the words name one file, and the shelf has one content under it
+same_bytes : (words : List (List ℕ)) (files : Files) (file a b : List ℕ) → line words ≡ Some (One file) → file_named files file ≡ Some b → Names words files a → a ≡ b
+same_bytes words files file a b command found names =
+    let commands : Some (One names.file) ≡ Some (One file) = sym names.command ∙ command in
+    let file_same : names.file ≡ file = cc in
+    let both : Some a ≡ Some b = sym names.found ∙ ap (file_named files) file_same ∙ found in
+    cc
+
+-- words that are no command name no file
+no_names : (words : List (List ℕ)) (files : Files) (bytes : List ℕ) → line words ≡ None → Names words files bytes → ⊥
+no_names words files bytes none names = let both : Some (One names.file) ≡ None = sym names.command ∙ none in cc
+
+-- ---- an empty history
+
+no_replies : (boot : Boot) → EachReply boot []
+no_replies boot [] after entry parts = absurd (let never : ⊥ = cc in never)
+no_replies boot (first ∷ before) after entry parts = absurd (let never : ⊥ = cc in never)
+
+no_end : (words : List (List ℕ)) (files : Files) (end : End) → RunEnds words files [] end → ⊥
+no_end words files end ends =
+    let open_still : None ≡ Some end = sym (ap (λ (w : World). w.kernel.ended) ends.2.1.2) ∙ ends.2.2 in cc
+
+no_stops : (boot : Boot) → InOrder boot []
+no_stops boot program loads pid = none boot.slice (get (boot_world boot program).processes pid)
+  where
+    none : (slice : ℕ) (process : Option _) → StopsOf slice process []
+    none slice None = tt
+    none slice (Some process) = tt
+
+nothing_run : (words : List (List ℕ)) (files : Files) (boot : Boot) → Boots words files boot → Run boot []
+nothing_run words files boot boots = (boot_world boot boots.program, (boots.program, boots.loads, refl), omega arith)
+
+-- ---- reasons that differ
+
+-- a cause that doesn't hold, and a reason that it isn't
+neither : (reason expected : Reason) (cause : Type 0) → reason ≢ expected → (cause → ⊥) → ExactlyWhere reason expected cause
+neither reason expected cause differ never = ((λ e. absurd (differ e)), (λ c _ _. absurd (never c)))
+
+shelf_failed : (expected : Reason) (cause : Type 0) → ShelfFault ≢ expected → ExactlyWhere ShelfFault expected cause
+shelf_failed expected cause differ = ((λ e. absurd (differ e)), (λ c sound _. absurd (sound refl)))
+
+no_memory : (expected : Reason) (cause : Type 0) → Memory ≢ expected → ExactlyWhere Memory expected cause
+no_memory expected cause differ = ((λ e. absurd (differ e)), (λ c _ room. absurd (room refl)))
+
+just : (reason : Reason) (cause : Type 0) → cause → ExactlyWhere reason reason cause
+just reason cause holds = ((λ _. holds), (λ _ _ _. refl))
+
+-- ---- a file that is there
+
+module _ (words : List (List ℕ)) (files : Files) (file : List ℕ) (command : line words ≡ Some (One file)) where
+  -- within its limit it isn't too long
+  short_enough : (bytes : List ℕ) → HasProgram files file bytes → IsTooLong words files → ⊥
+  short_enough bytes has long =
+      let same = same_bytes words files file long.0 bytes command has.found long.1 in
+      let more : program_limit < length bytes = subst (λ (b : List ℕ). program_limit < length b) same long.2 in
+      let few : length bytes ≤ program_limit = has.short in
+      omega arith
+
+  -- past it, it is nothing else
+  too_long_malformed : (bytes : List ℕ) → file_named files file ≡ Some bytes → program_limit < length bytes → IsMalformed words files → ⊥
+  too_long_malformed bytes found long bad =
+      let same = same_bytes words files file bad.0 bytes command found bad.1 in
+      let few : length bytes ≤ program_limit = subst (λ (b : List ℕ). length b ≤ program_limit) same bad.2 in
+      omega arith
+
+  too_long_not_yet : (bytes : List ℕ) → file_named files file ≡ Some bytes → program_limit < length bytes → IsNotYet words files → ⊥
+  too_long_not_yet bytes found long bad =
+      let same = same_bytes words files file bad.0 bytes command found bad.1 in
+      let few : length bytes ≤ program_limit = subst (λ (b : List ℕ). length b ≤ program_limit) same bad.2 in
+      omega arith
+
+  begins_not_malformed : (bytes : List ℕ) → file_named files file ≡ Some bytes → take 8 bytes ≡ preamble → IsMalformed words files → ⊥
+  begins_not_malformed bytes found begins bad =
+      let same = same_bytes words files file bad.0 bytes command found bad.1 in
+      bad.3 (ap (take 8) same ∙ begins)
+
+  malformed_not_yet : (bytes : List ℕ) → file_named files file ≡ Some bytes → take 8 bytes ≢ preamble → IsNotYet words files → ⊥
+  malformed_not_yet bytes found other bad =
+      let same = same_bytes words files file bad.0 bytes command found bad.1 in
+      other (ap (take 8) (sym same) ∙ bad.3)
+
+  spelled_not_yet : (bytes : List ℕ) (program : ThinModule) → file_named files file ≡ Some bytes → SpellsThin bytes program → IsNotYet words files → ⊥
+  spelled_not_yet bytes program found spelled bad =
+      let same = same_bytes words files file bad.0 bytes command found bad.1 in
+      bad.4 program (subst (λ (b : List ℕ). SpellsThin b program) (sym same) spelled)
+
+-- SpellsThin says how the bytes begin
+pub begins : (bytes : List ℕ) (program : ThinModule) → SpellsThin bytes program → take 8 bytes ≡ preamble
+begins bytes program spelled = ?
+
+-- ---- the answers
+
+module _ (words : List (List ℕ)) (files : Files) where
+  pub serves_usage : line words ≡ None → Serves words files Usage []
+  serves_usage none = record {
+    run = nothing_run words files;
+    replies = λ boot boots. no_replies boot;
+    order = λ boot boots. no_stops boot;
+    exited = λ code. ((λ e. absurd (let never : ⊥ = cc in never)), (λ ends. absurd (no_end words files (ExitedEnd code) ends)));
+    too_long = neither Usage TooLong (IsTooLong words files) (λ e. cc) (λ c. no_names words files c.0 none c.1);
+    malformed = neither Usage (BadProgram Malformed) (IsMalformed words files) (λ e. cc) (λ c. no_names words files c.0 none c.1);
+    not_yet = neither Usage (BadProgram NotYet) (IsNotYet words files) (λ e. cc) (λ c. no_names words files c.0 none c.1);
+  }
+
+  refused : (reason : Reason) → ((code : ℕ) → reason ≢ Exited code) → ExactlyWhere reason TooLong (IsTooLong words files) → ExactlyWhere reason (BadProgram Malformed) (IsMalformed words files) → ExactlyWhere reason (BadProgram NotYet) (IsNotYet words files) → Serves words files reason []
+  refused reason open_still long bad later = record {
+    run = nothing_run words files;
+    replies = λ boot boots. no_replies boot;
+    order = λ boot boots. no_stops boot;
+    exited = λ code. ((λ e. absurd (open_still code e)), (λ ends. absurd (no_end words files (ExitedEnd code) ends)));
+    too_long = long;
+    malformed = bad;
+    not_yet = later;
+  }
+
+  pub serves_refused : (file : List ℕ) (reason : Reason) → line words ≡ Some (One file) → Loading files file (Err reason) → Serves words files reason []
+  serves_refused file (Exited code) command cause = absurd cause
+  serves_refused file Usage command cause = absurd cause
+  serves_refused file ShelfFault command cause =
+      refused ShelfFault (λ code e. cc) (shelf_failed TooLong (IsTooLong words files) (λ e. cc)) (shelf_failed (BadProgram Malformed) (IsMalformed words files) (λ e. cc)) (shelf_failed (BadProgram NotYet) (IsNotYet words files) (λ e. cc))
+  serves_refused file TooLong command cause =
+      refused TooLong (λ code e. cc)
+        (just TooLong (IsTooLong words files) (cause.0, record { file = file; command = command; found = cause.1 }, cause.2))
+        (neither TooLong (BadProgram Malformed) (IsMalformed words files) (λ e. cc) (too_long_malformed words files file command cause.0 cause.1 cause.2))
+        (neither TooLong (BadProgram NotYet) (IsNotYet words files) (λ e. cc) (too_long_not_yet words files file command cause.0 cause.1 cause.2))
+  serves_refused file (BadProgram Malformed) command cause =
+      refused (BadProgram Malformed) (λ code e. cc)
+        (neither (BadProgram Malformed) TooLong (IsTooLong words files) (λ e. cc) (short_enough words files file command cause.0 cause.1))
+        (just (BadProgram Malformed) (IsMalformed words files) (cause.0, record { file = file; command = command; found = cause.1.found }, cause.1.short, cause.2))
+        (neither (BadProgram Malformed) (BadProgram NotYet) (IsNotYet words files) (λ e. cc) (malformed_not_yet words files file command cause.0 cause.1.found cause.2))
+  serves_refused file (BadProgram NotYet) command cause =
+      refused (BadProgram NotYet) (λ code e. cc)
+        (neither (BadProgram NotYet) TooLong (IsTooLong words files) (λ e. cc) (short_enough words files file command cause.0 cause.1))
+        (neither (BadProgram NotYet) (BadProgram Malformed) (IsMalformed words files) (λ e. cc) (begins_not_malformed words files file command cause.0 cause.1.found cause.2))
+        (just (BadProgram NotYet) (IsNotYet words files) (cause.0, record { file = file; command = command; found = cause.1.found }, cause.1.short, cause.2, cause.3))
+  serves_refused file (BadProgram NoMemory) command cause = absurd cause
+  serves_refused file Memory command cause =
+      refused Memory (λ code e. cc) (no_memory TooLong (IsTooLong words files) (λ e. cc)) (no_memory (BadProgram Malformed) (IsMalformed words files) (λ e. cc)) (no_memory (BadProgram NotYet) (IsNotYet words files) (λ e. cc))
+
+  -- the boot of a file that spells the program begins it
+  boot_begins : (file : List ℕ) (program : ThinModule) (bytes : List ℕ) → SpellsThin bytes program → Begins (one_boot bytes) program
+  boot_begins file program bytes spelled = record {
+    loads = (bytes, get-insert nat_list_cmp_total empty program_path bytes program_path ∙ ap (λ b. cond b (Some bytes) (get {R = slice_cmp nat_cmp} empty program_path)) ((eq_by_cmp_equiv nat_list_cmp_total).refl program_path), spelled);
+    slice = refl;
+    fuel = refl;
+  }
+
+  -- the boot that words and shelf determine is that one
+  boots_is : (file bytes : List ℕ) (boot : Boot) → line words ≡ Some (One file) → file_named files file ≡ Some bytes → Boots words files boot → boot ≡ one_boot bytes
+  boots_is file bytes boot command found boots = boots.is ∙ ap one_boot (same_bytes words files file boots.bytes bytes command found boots.names)
+
+  boots_begin : (file bytes : List ℕ) (program : ThinModule) (boot : Boot) → line words ≡ Some (One file) → file_named files file ≡ Some bytes → SpellsThin bytes program → Boots words files boot → Begins boot program
+  boots_begin file bytes program boot command found spelled boots =
+      subst (λ (b : Boot). Begins b program) (sym (boots_is file bytes boot command found boots)) (boot_begins file program bytes spelled)
+
+  its_boot : (file bytes : List ℕ) (program : ThinModule) → line words ≡ Some (One file) → HasProgram files file bytes → SpellsThin bytes program → Boots words files (one_boot bytes)
+  its_boot file bytes program command has spelled = record {
+    bytes = bytes; program = program; names = record { file = file; command = command; found = has.found }; short = has.short; is = refl; loads = (boot_begins file program bytes spelled).loads;
+  }
+
+  -- a run's reason is none of the refusals
+  ran_exactly : (why : Why) (expected : Reason) (cause : Type 0) → ((code : ℕ) → Exited code ≢ expected) → Memory ≢ expected → (cause → ⊥) → ExactlyWhere (reason_of why) expected cause
+  ran_exactly (ExitedWhy code) expected cause exited room never = neither (Exited code) expected cause (exited code) never
+  ran_exactly MemoryWhy expected cause exited room never = neither Memory expected cause room never
+
+  exited_why : (why : Why) (code : ℕ) → reason_of why ≡ Exited code → why ≡ ExitedWhy code
+  exited_why (ExitedWhy c) code e = (let same : c ≡ code = cc in ap ExitedWhy same)
+  exited_why MemoryWhy code e = cc
+
+  pub serves_run : (file : List ℕ) (program : ThinModule) (why : Why) (entries : List Entry) → line words ≡ Some (One file) → Loading files file (Ok program) → Ran program why entries → Serves words files (reason_of why) entries
+  serves_run file program why entries command cause ran =
+      let bytes : List ℕ = cause.0 in
+      let has : HasProgram files file bytes = cause.1 in
+      let spelled : SpellsThin bytes program = cause.2 in
+      let first = boots_begin file bytes program in
+      record {
+        run = λ boot boots. ran.run boot (first boot command has.found spelled boots);
+        replies = λ boot boots. ran.replies boot (first boot command has.found spelled boots);
+        order = λ boot boots. ran.order boot (first boot command has.found spelled boots);
+        exited = λ code.
+          ((λ e. (one_boot bytes, its_boot file bytes program command has spelled,
+                  (ran.exited (one_boot bytes) code (boot_begins file program bytes spelled)).0 (exited_why why code e))),
+           (λ ends. ap reason_of ((ran.exited ends.0 code (first ends.0 command has.found spelled ends.1)).1 ends.2)));
+        too_long = ran_exactly why TooLong (IsTooLong words files) (λ code e. cc) (λ e. cc) (short_enough words files file command bytes has);
+        malformed = ran_exactly why (BadProgram Malformed) (IsMalformed words files) (λ code e. cc) (λ e. cc) (begins_not_malformed words files file command bytes has.found (begins bytes program spelled));
+        not_yet = ran_exactly why (BadProgram NotYet) (IsNotYet words files) (λ code e. cc) (λ e. cc) (spelled_not_yet words files file command bytes program has.found spelled);
+      }
+
+-- a fault while a program is loaded tells of no command that isn't one
+pub load_fault_usage : (reason : Reason) → IsLoadFault reason → reason ≢ Usage
+load_fault_usage (Exited code) is e = is
+load_fault_usage Usage is e = is
+load_fault_usage ShelfFault is e = cc
+load_fault_usage TooLong is e = cc
+load_fault_usage (BadProgram fault) is e = cc
+load_fault_usage Memory is e = cc
+
+pub load_fault_memory : (reason : Reason) → IsLoadFault reason → reason ≢ BadProgram NoMemory
+load_fault_memory (Exited code) is e = is
+load_fault_memory Usage is e = is
+load_fault_memory ShelfFault is e = cc
+load_fault_memory TooLong is e = cc
+load_fault_memory (BadProgram Malformed) is e = cc
+load_fault_memory (BadProgram NotYet) is e = cc
+load_fault_memory (BadProgram NoMemory) is e = is
+load_fault_memory Memory is e = cc

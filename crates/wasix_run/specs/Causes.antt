@@ -1,0 +1,34 @@
+-- When each reason comes.
+use Rattle.std.specs.Prelude.{◌≡◌, ◌≢◌, ◌⊎◌, ◌<◌, ◌≤◌, ℕ, List, take, length}
+use Rattle.wx_types.specs.Files.{Files}
+use Rattle.wasm_decode.specs.ThinModule.{ThinModule}
+use Rattle.wasm_decode.specs.ThinGrammar.{SpellsThin, preamble}
+use Rattle.wasix_run.specs.declared.reason.Reason.{Reason}
+use Rattle.wasix_run.specs.declared.reason.Reason.TheVariants.{Exited, Usage, ShelfFault, TooLong, BadProgram, Memory}
+use Rattle.wasix_run.specs.Outside.{Names, program_limit}
+
+-- the named file is longer than a program may be
+abbrev pub IsTooLong : List (List ℕ) → Files → Type 0
+IsTooLong words files = (bytes : List ℕ) × Names words files bytes × (program_limit < length bytes)
+
+-- the named file doesn't begin as a module does
+abbrev pub IsMalformed : List (List ℕ) → Files → Type 0
+IsMalformed words files = (bytes : List ℕ) × Names words files bytes × (length bytes ≤ program_limit) × (take 8 bytes ≢ preamble)
+
+-- the named file begins as a module does, and spells no program of the kind that can be run
+abbrev pub IsNotYet : List (List ℕ) → Files → Type 0
+IsNotYet words files =
+    (bytes : List ℕ) × Names words files bytes × (length bytes ≤ program_limit) × (take 8 bytes ≡ preamble) × ((program : ThinModule) → SpellsThin bytes program → ⊥)
+
+-- This reason comes only where it has this cause, and where the cause holds no other reason comes but that the shelf failed or memory ran out.
+abbrev pub ExactlyWhere : Reason → Reason → Type 0 → Type 0
+ExactlyWhere reason expected cause = (reason ≡ expected → cause) × (cause → reason ≢ ShelfFault → reason ≢ Memory → reason ≡ expected)
+
+-- a reason before any run was begun
+abbrev pub IsRefusal : Reason → Type 0
+IsRefusal (Exited code) = ⊥
+IsRefusal Usage = Unit {0}
+IsRefusal ShelfFault = Unit {0}
+IsRefusal TooLong = Unit {0}
+IsRefusal (BadProgram fault) = Unit {0}
+IsRefusal Memory = ⊥

@@ -1,0 +1,6 @@
+pub mod Line
+pub mod Status
+pub mod Outside
+pub mod Causes
+pub mod Loading
+pub mod Serves

@@ -1,0 +1,37 @@
+-- What the answer to a command means, where the shelf tells its files.
+use Rattle.std.specs.Prelude.{◌≡◌, ◌↔◌, ℕ, List}
+use Rattle.wx_types.specs.Files.{Files}
+use Rattle.wx_types.specs.declared.entries.Entry.{Entry}
+use Rattle.wasm_decode.specs.declared.fault.ThinFault.TheVariants.{Malformed, NotYet}
+use Rattle.runner.specs.declared.one.Why.{Why}
+use Rattle.runner.specs.declared.one.Why.TheVariants.{Exited as ExitedWhy, Memory as MemoryWhy}
+use Rattle.runner.specs.Kernel.{Exited as ExitedEnd}
+use Rattle.runner.specs.Boot.{Boot}
+use Rattle.runner.specs.Run.{Run, EachReply, InOrder, EndsAs}
+use Rattle.wasm_decode.specs.ThinModule.{ThinModule}
+use Rattle.runner.specs.OneProcess.{Begins}
+use Rattle.wasix_run.specs.declared.reason.Reason.{Reason}
+use Rattle.wasix_run.specs.declared.reason.Reason.TheVariants.{Exited, TooLong, BadProgram, Memory}
+use Rattle.wasix_run.specs.Outside.{Boots, RunEnds}
+use Rattle.wasix_run.specs.Causes.{ExactlyWhere, IsTooLong, IsMalformed, IsNotYet}
+
+-- the reason that tells how a run ended
+abbrev pub reason_of : Why → Reason
+reason_of (ExitedWhy code) = Exited code
+reason_of MemoryWhy = Memory
+
+pub record Serves (words : List (List ℕ)) (files : Files) (reason : Reason) (entries : List Entry) : Type 0 where
+  pub run : (boot : Boot) → Boots words files boot → Run boot entries
+  pub replies : (boot : Boot) → Boots words files boot → EachReply boot entries
+  pub order : (boot : Boot) → Boots words files boot → InOrder boot entries
+  pub exited : (code : ℕ) → (reason ≡ Exited code) ↔ RunEnds words files entries (ExitedEnd code)
+  pub too_long : ExactlyWhere reason TooLong (IsTooLong words files)
+  pub malformed : ExactlyWhere reason (BadProgram Malformed) (IsMalformed words files)
+  pub not_yet : ExactlyWhere reason (BadProgram NotYet) (IsNotYet words files)
+
+-- what the run of a program is, from each boot of it
+pub record Ran (program : ThinModule) (why : Why) (entries : List Entry) : Type 0 where
+  pub run : (boot : Boot) → Begins boot program → Run boot entries
+  pub replies : (boot : Boot) → Begins boot program → EachReply boot entries
+  pub order : (boot : Boot) → Begins boot program → InOrder boot entries
+  pub exited : (boot : Boot) (code : ℕ) → Begins boot program → (why ≡ ExitedWhy code) ↔ EndsAs boot entries (ExitedEnd code)

@@ -1,0 +1,17 @@
+//! The top calls of the host: words, files and streams in, a journal and an exit status out.
+#![tactic(auto)]
+
+mod file_shelf;
+mod line;
+mod load;
+mod reason;
+mod serial;
+mod streams;
+
+pub use file_shelf::FileShelf;
+pub use reason::Reason;
+pub use serial::{Ended, wasix_serial};
+pub use streams::{StreamSink, StreamSource};
+
+#[cfg(test)]
+mod tests;
