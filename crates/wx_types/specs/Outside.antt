@@ -8,7 +8,7 @@ use Rattle.wx_types.specs.declared.errors.ShelfError.TheVariants.{Failed, TooLon
 abbrev pub next_count : ℕ → ℕ
 next_count count = min (count + 1) (2 ^ 64 - 1)
 
--- a count of faults rose: it is greater, or stands at the greatest u64
+-- a count of faults rose: it is greater, or stands at the greatest u64, which no count in a u64 passes
 abbrev pub Rose : ℕ → ℕ → Type 0
 Rose before after = (before < after) ⊎ (2 ^ 64 - 1 ≤ after)
 

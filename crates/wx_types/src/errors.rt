@@ -2,7 +2,7 @@
 ghost use Rattle.std.specs.Prelude.{◌≡◌};
 ghost use Rattle.wx_types.specs.Errno.{errno_number};
 
-use std::alloc::AllocError;
+use std::alloc::{AllocError, AllocFailed};
 
 /// An error number of WASI preview 1 (`errno`). These are the ones that the host answers.
 #[derive(Clone, Copy, Debug, PartialEq, Eq)]
@@ -92,6 +92,28 @@ impl From<AllocError> for Refusal {
     }
 }
 
+impl<T: Drop> From<AllocFailed<T>> for Refusal {
+    ghost use Rattle.std.specs.Prelude.{◌≡◌};
+    ghost use Rattle.wx_types.specs.declared.errors.Refusal.TheVariants.{Memory};
+
+    ghost from_gives = { λ _ r. r ≡ Memory };
+
+    fn from(_want: AllocFailed<T>) -> Refusal {
+        Refusal::Memory
+    }
+}
+
+impl From<Errno> for Refusal {
+    ghost use Rattle.std.specs.Prelude.{◌≡◌};
+    ghost use Rattle.wx_types.specs.declared.errors.Refusal.TheVariants.{Errno as refused};
+
+    ghost from_gives = { λ number r. r ≡ refused number };
+
+    fn from(number: Errno) -> Refusal {
+        Refusal::Errno(number)
+    }
+}
+
 /// A call of the outside failed: its count of faults rose in that call.
 #[derive(Clone, Copy, Debug, PartialEq, Eq)]
 pub struct Failed;
@@ -115,5 +137,16 @@ impl From<AllocError> for ShelfError {
 
     fn from(_want: AllocError) -> ShelfError {
         ShelfError::Memory
+    }
+}
+
+impl From<Failed> for ShelfError {
+    ghost use Rattle.std.specs.Prelude.{◌≡◌};
+    ghost use Rattle.wx_types.specs.declared.errors.ShelfError.TheVariants.{Failed as failed};
+
+    ghost from_gives = { λ _ e. e ≡ failed };
+
+    fn from(_failed: Failed) -> ShelfError {
+        ShelfError::Failed
     }
 }

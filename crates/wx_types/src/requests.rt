@@ -2,7 +2,7 @@
 use super::byte_list::Bytes;
 
 /// The request at which a slice of a guest thread ended.
-#[derive(Debug, Drop)]
+#[derive(Debug, Drop, PartialEq, Eq)]
 pub struct Request {
     /// The number of the call.
     pub call: u16,

@@ -143,10 +143,8 @@ fn copy_file<H: Shelf>(alloc: Global, shelf: &mut H, from: &str, to: &str) -> Re
     ensures copied { OnOk result (told_file (H.held shelf.new) to.now ≡ told_file (H.held shelf.old) from.now) }
 {
     let bytes = shelf.read(alloc, from, 5)?;
-    match shelf.write(to, bytes.as_slice()) {
-        Ok(()) => Ok(()),
-        Err(Failed) => Err(ShelfError::Failed),
-    }
+    shelf.write(to, bytes.as_slice())?;
+    Ok(())
 }
 
 #[test]
