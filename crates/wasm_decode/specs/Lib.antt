@@ -2,3 +2,4 @@ pub mod Grammar
 pub mod ThinModule
 pub mod ThinGrammar
 pub mod Reading
+pub mod Views

@@ -1,26 +1,18 @@
 -- Which bytes spell a thin module: the binary format of WebAssembly Core 1.0, chapter 5, cut to the
 -- sections 1, 2, 3, 7 and 10, to i32 and to the instructions of a thin module, and the conditions of
 -- chapter 3. Numbers may be spelled longer than they need, within the bound of 5.2.2.
-use Rattle.std.specs.Prelude.{◌≡◌, ◌≢◌, ◌≤◌, ℕ, ℤ, List, [], ◌∷◌, ◌++◌, length, map, Option, Some, slice_get, All, AllPairs, Contains, codes}
+use Rattle.std.specs.Prelude.{◌≡◌, ◌≢◌, ◌≤◌, ℕ, ℤ, List, [], ◌∷◌, ◌++◌, length, map, Option, Some, slice_get, All, Any, AllPairs, codes}
 use Rattle.std.specs.Int.{w32, cast_unsigned}
 use Rattle.std.specs.List.{AllByRecursion}
 use Rattle.byte_cursor.specs.Integers.{SpellsUnsigned, SpellsSigned}
 use Rattle.wasm_decode.specs.Grammar.{SpellsEach, SpellsVector, SpellsOne, SpellsBytes, SpellsName, SpellsSized, SpellsSection, SpellsOptional}
 use Rattle.wasm_decode.specs.ThinModule.{ThinModule, IsValid, takes, gives}
+use Rattle.wasm_decode.specs.declared.items.FuncType.{FuncType}
+use Rattle.wasm_decode.specs.declared.items.Import.{Import}
 use Rattle.wasm_decode.specs.declared.thin.ThinImport.{ThinImport}
 use Rattle.wasm_decode.specs.declared.thin.ThinImport.TheVariants.{ProcExit}
 use Rattle.wasm_decode.specs.declared.thin.ThinInstr.{ThinInstr}
 use Rattle.wasm_decode.specs.declared.thin.ThinInstr.TheVariants.{Const, Call, Drop}
-
--- a function type over i32: how many parameters and how many results
-pub record FuncType : Type 0 where
-  pub params : ℕ
-  pub results : ℕ
-
--- an imported function, and the number of its type
-pub record Import : Type 0 where
-  pub what : ThinImport
-  pub of : ℕ
 
 -- an exported function: its name and its number
 pub record Export : Type 0 where
@@ -55,9 +47,9 @@ SpellsInstr bytes (Const n) = (number : List ℕ) × (z : ℤ) × (bytes ≡ 0x4
 SpellsInstr bytes (Call index) = (number : List ℕ) × (bytes ≡ 0x10 ∷ number) × SpellsUnsigned 32 number index
 SpellsInstr bytes Drop = bytes ≡ 0x1a ∷ []
 
--- 5.4.6: an expression, instructions and then the end
+-- 5.4.6: an expression, instructions, here at most 1,000, and then the end
 abbrev pub SpellsExpr : List ℕ → List ThinInstr → Type 0
-SpellsExpr bytes is = (front : List ℕ) × (bytes ≡ front ++ 0x0b ∷ []) × SpellsEach SpellsInstr front is
+SpellsExpr bytes is = (front : List ℕ) × (bytes ≡ front ++ 0x0b ∷ []) × (length is ≤ 1000) × SpellsEach SpellsInstr front is
 
 -- 5.5.13: a group of no locals, which leaves no trace
 abbrev pub SpellsNoLocals : List ℕ → Unit {0} → Type 0
@@ -107,7 +99,7 @@ pub record IsThin (p : Parts) : Type 0 where
   pub function : slice_get p.types p.function ≡ Some (record { params = 0; results = 0 })
   pub in_range : All (λ e. e.index ≤ length p.imports) p.exports
   pub differ : AllPairs (λ d e. d.name ≢ e.name) p.exports
-  pub start : Contains p.exports (record { name = codes "_start"; index = length p.imports })
+  pub start : Any (λ e. (e.name ≡ codes "_start") × (e.index ≡ length p.imports)) p.exports
   pub valid : IsValid (module_of p)
 
 -- 5.5.15: what stands in front of the sections, the magic number and the version

@@ -2,6 +2,9 @@
 #![tactic(auto)]
 
 mod fault;
+mod items;
+mod parts;
+mod reading;
 mod thin;
 
 pub use fault::ThinFault;
