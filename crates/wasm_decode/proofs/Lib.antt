@@ -1,2 +1,4 @@
 pub mod Loop
 pub mod Readers
+pub mod ItemReaders
+pub mod Whole

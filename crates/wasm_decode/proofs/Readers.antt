@@ -1,13 +1,13 @@
 -- Reading from a list and the grammar say the same: what is read is spelled at the front, and what is
 -- spelled is read, whatever follows.
 use Rattle.std.proofs.Common.{◌≡◌, ◌⊎◌, ℕ, ℤ, zero, suc, ◌+◌, ◌-◌, ◌≤◌, ◌<◌, Bool, true, false, cond, eqb, ltb, List, [], ◌∷◌, ◌++◌, length, take, drop, Option, Some, None, Result, Ok, Err, refl, sym, ap, subst, ◌∙◌, append_assoc, arith, inl, inr}
-use Rattle.std.proofs.lemmas.Bool.{eqb-true, eqb-refl, ltb-false, le-ltb}
+use Rattle.std.proofs.lemmas.Bool.{eqb-true, eq-eqb, ltb-false, le-ltb}
 use Rattle.std.proofs.lemmas.List.{append-nil, nil_from_length, take_at, drop_at, take-append-drop, length-append, length-take}
 use Rattle.byte_cursor.specs.declared.leb.CursorFault.{CursorFault}
 use Rattle.byte_cursor.specs.declared.leb.CursorFault.TheVariants.{End}
 use Rattle.byte_cursor.specs.Integers.{SpellsUnsigned, SpellsSigned, BeginsWith, unsigned_last, unsigned_joined, signed_last, signed_joined}
 use Rattle.byte_cursor.specs.Reading.{unsigned_at, signed_at}
-use Rattle.byte_cursor.proofs.Laws.{number_takes, number_again}
+use Rattle.byte_cursor.proofs.Laws.{chosen, number_takes, number_again}
 use Rattle.wasm_decode.specs.Grammar.{SpellsEach, SpellsVector, SpellsOne, SpellsBytes, SpellsSized, SpellsSection, SpellsOptional}
 use Rattle.wasm_decode.specs.Reading.{◌>>=◌, read_of, byte_at, span_at, u32_at, i32_at, after_byte, bytes_at, each_at, vector_at, one_at, nothing_left, all_at, sized_at, content_at, section_at, begins_with, optional_at}
 
@@ -70,11 +70,19 @@ after_takes byte bytes rest e =
 
 pub after_again : (byte : ℕ) (rest : List ℕ) → after_byte byte (byte ∷ rest) ≡ Some rest
 unfolding after_byte byte_at
-after_again byte rest = rw (eqb-refl byte) refl
+after_again byte rest = rw (eq-eqb byte byte refl) refl
+
+guard_ok : {A : Type 0} (b : Bool) (d : CursorFault) (x y : A) → cond b (Err d) (Ok x) ≡ Ok y → (b ≡ false) × (x ≡ y)
+guard_ok true d x y e = absurd cc
+guard_ok false d x y e = (refl, cc)
 
 span_takes : (n : ℕ) (bytes text rest : List ℕ) → span_at n bytes ≡ Some (text, rest) → (length text ≡ n) × (bytes ≡ text ++ rest)
 unfolding span_at
-span_takes n bytes text rest e = ?
+span_takes n bytes text rest e =
+    let g = guard_ok (ltb (length bytes) n) End (take n bytes, drop n bytes) (text, rest) (read_of_some _ (text, rest) e) in
+    let long : n ≤ length bytes = ltb-false _ _ g.0 in
+    let len : length (take n bytes) ≡ n = omega (arith, length-take n bytes) in
+    subst (λ (p : List ℕ × List ℕ). (length p.0 ≡ n) × (bytes ≡ p.0 ++ p.1)) g.1 (len, sym (take-append-drop n bytes))
 
 span_again : (text rest : List ℕ) → span_at (length text) (text ++ rest) ≡ Some (text, rest)
 unfolding span_at
@@ -202,7 +210,26 @@ section_reader {A = A} id read spells r = record {
 }
 
 pub optional_takes : {A : Type 0} (id : ℕ) (read : List ℕ → Option (A × List ℕ)) (spells : List ℕ → A → Type 0) → IsReader read spells → (bytes : List ℕ) (xs : List A) (rest : List ℕ) → optional_at id read bytes ≡ Some (xs, rest) → BeginsWith (SpellsOptional id spells) bytes xs rest
-optional_takes id read spells r bytes xs rest e = ?
+unfolding optional_at
+optional_takes {A = A} id read spells r bytes xs rest e =
+    let nil : List A = [] in
+    elim (chosen (begins_with id bytes) (section_at id (vector_at read) bytes) (some (nil, bytes)) (some (xs, rest)) e) [
+      | inl there ↦
+          let t = (section_reader id (vector_at read) (SpellsVector spells) (vector_reader read spells r)).takes bytes xs rest there.1 in
+          (t.0, inl t.1, t.2)
+      | inr left_out ↦
+          let p = some_is (nil, bytes) (xs, rest) left_out.1 in
+          ([], inr (refl, sym (ap (λ (v : List A × List ℕ). v.0) p)), ap (λ (v : List A × List ℕ). v.1) p)
+    ]
 
 pub optional_again : {A : Type 0} (id : ℕ) (read : List ℕ → Option (A × List ℕ)) (spells : List ℕ → A → Type 0) → IsReader read spells → (front : List ℕ) (xs : List A) (rest : List ℕ) → begins_with id rest ≡ false → SpellsOptional id spells front xs → optional_at id read (front ++ rest) ≡ Some (xs, rest)
-optional_again id read spells r front xs rest no s = ?
+unfolding optional_at
+optional_again {A = A} id read spells r front xs rest other s = elim s [
+    | inl there ↦
+        let begins : begins_with id (front ++ rest) ≡ true = ap (λ (y : List ℕ). begins_with id (y ++ rest)) there.1 ∙ eq-eqb id id refl in
+        rw begins ((section_reader id (vector_at read) (SpellsVector spells) (vector_reader read spells r)).again front xs rest there)
+    | inr left_out ↦
+        let nil : List A = [] in
+        let same : front ++ rest ≡ rest = ap (λ (y : List ℕ). y ++ rest) left_out.0 in
+        ap (optional_at id read) same ∙ rw other (ap (λ (ys : List A). some (ys, rest)) (sym left_out.1))
+  ]

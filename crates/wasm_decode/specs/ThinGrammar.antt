@@ -102,15 +102,14 @@ pub record IsThin (p : Parts) : Type 0 where
   pub start : Any (λ e. (e.name ≡ codes "_start") × (e.index ≡ length p.imports)) p.exports
   pub valid : IsValid (module_of p)
 
+-- the bytes behind the preamble spell a thin module
+abbrev pub SpellsSections : List ℕ → ThinModule → Type 0
+SpellsSections bytes m = (p : Parts) × SpellsParts bytes p × IsThin p × (m ≡ module_of p)
+
 -- 5.5.15: what stands in front of the sections, the magic number and the version
 abbrev pub preamble : List ℕ
 preamble = 0x00 ∷ 0x61 ∷ 0x73 ∷ 0x6d ∷ 0x01 ∷ 0x00 ∷ 0x00 ∷ 0x00 ∷ []
 
 -- the bytes spell a thin module
-pub record SpellsThin (bytes : List ℕ) (m : ThinModule) : Type 0 where
-  pub rest : List ℕ
-  pub parts : Parts
-  pub begins : bytes ≡ preamble ++ rest
-  pub spelled : SpellsParts rest parts
-  pub thin : IsThin parts
-  pub module_is : m ≡ module_of parts
+abbrev pub SpellsThin : List ℕ → ThinModule → Type 0
+SpellsThin bytes m = (rest : List ℕ) × (bytes ≡ preamble ++ rest) × SpellsSections rest m

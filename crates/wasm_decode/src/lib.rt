@@ -1,6 +1,7 @@
 //! Modules of WebAssembly Core 1.0, read from their binary format (chapter 5 of the standard).
 #![tactic(auto)]
 
+mod check;
 mod fault;
 mod items;
 mod parts;
