@@ -2,3 +2,5 @@ pub mod Loop
 pub mod Readers
 pub mod ItemReaders
 pub mod Whole
+pub mod Heights
+pub mod Distinct

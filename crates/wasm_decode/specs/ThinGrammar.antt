@@ -86,6 +86,10 @@ pub record SpellsParts (bytes : List ℕ) (p : Parts) : Type 0 where
 abbrev pub type_of : ThinImport → FuncType
 type_of import = record { params = takes import; results = gives import }
 
+-- the type of a function without parameters and results
+abbrev pub plain_type : FuncType
+plain_type = record { params = 0; results = 0 }
+
 -- what is kept of the parts
 abbrev pub module_of : Parts → ThinModule
 module_of p = record { imports = map (λ i. i.what) p.imports; body = p.body }
@@ -96,7 +100,7 @@ module_of p = record { imports = map (λ i. i.what) p.imports; body = p.body }
 pub record IsThin (p : Parts) : Type 0 where
   pub results : All (λ t. t.results ≤ 1) p.types
   pub imports : All (λ i. slice_get p.types i.of ≡ Some (type_of i.what)) p.imports
-  pub function : slice_get p.types p.function ≡ Some (record { params = 0; results = 0 })
+  pub function : slice_get p.types p.function ≡ Some plain_type
   pub in_range : All (λ e. e.index ≤ length p.imports) p.exports
   pub differ : AllPairs (λ d e. d.name ≢ e.name) p.exports
   pub start : Any (λ e. (e.name ≡ codes "_start") × (e.index ≡ length p.imports)) p.exports

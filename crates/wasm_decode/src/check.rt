@@ -2,7 +2,7 @@
 
 ghost use Rattle.std.specs.Prelude.{◌≡◌, ◌≢◌, ◌≤◌, ◌+◌, ◌<◌, ◌^◌, ◌↔◌, ℕ, IsTrue, IfOk, length, map, All, Any, AllPairs, Some, slice_get, codes, count_by};
 ghost use Rattle.wasm_decode.specs.ThinModule.{height_after, heights, is_call, IsValid};
-ghost use Rattle.wasm_decode.specs.ThinGrammar.{type_of, IsThin};
+ghost use Rattle.wasm_decode.specs.ThinGrammar.{type_of, plain_type};
 ghost use Rattle.wasm_decode.specs.Views.{export_views};
 
 use crate::items::{Export, FuncType, Import};
@@ -53,7 +53,7 @@ pub fn imports_are_typed(types: &[FuncType], imports: &[Import]) -> bool
 
 /// Whether the own function has neither parameters nor results.
 pub fn function_is_plain(types: &[FuncType], function: u32) -> bool
-    ensures { IsTrue result ↔ (slice_get types.now function ≡ Some (record FuncType { params = 0; results = 0 })) }
+    ensures { IsTrue result ↔ (slice_get types.now function ≡ Some plain_type) }
 {
     has_type(
         types,

@@ -5,6 +5,7 @@ mod check;
 mod fault;
 mod items;
 mod parts;
+mod read;
 mod reading;
 mod thin;
 
