@@ -4,3 +4,5 @@ pub mod ItemReaders
 pub mod Whole
 pub mod Heights
 pub mod Distinct
+pub mod Fit
+pub mod Answering

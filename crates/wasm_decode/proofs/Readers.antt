@@ -94,13 +94,13 @@ pub bytes_reader : IsReader bytes_at SpellsBytes
 unfolding bytes_at
 bytes_reader = record {
   takes = λ bytes text rest e.
-    let n = bind_some (u32_at bytes) (λ n. span_at n.0 n.1) (text, rest) e in
-    let c = u32_reader.takes bytes n.0.0 n.0.1 n.1 in
-    let s = span_takes n.0.0 n.0.1 text rest n.2 in
-    (c.0 ++ text, (c.0, refl, subst (λ (k : ℕ). SpellsUnsigned 32 c.0 k) (sym s.0) c.1), c.2 ∙ (ap (λ (x : List ℕ). c.0 ++ x) s.1 ∙ sym (append_assoc c.0 text rest)));
+      let n = bind_some (u32_at bytes) (λ n. span_at n.0 n.1) (text, rest) e in
+      let c = u32_reader.takes bytes n.0.0 n.0.1 n.1 in
+      let s = span_takes n.0.0 n.0.1 text rest n.2 in
+      (c.0 ++ text, (c.0, refl, subst (λ (k : ℕ). SpellsUnsigned 32 c.0 k) (sym s.0) c.1), c.2 ∙ (ap (λ (x : List ℕ). c.0 ++ x) s.1 ∙ sym (append_assoc c.0 text rest)));
   again = λ front text rest s.
-    let regrouped : front ++ rest ≡ s.0 ++ (text ++ rest) = ap (λ (x : List ℕ). x ++ rest) s.1 ∙ append_assoc s.0 text rest in
-    ap bytes_at regrouped ∙ rw (u32_reader.again s.0 (length text) (text ++ rest) s.2) (span_again text rest);
+      let regrouped : front ++ rest ≡ s.0 ++ (text ++ rest) = ap (λ (x : List ℕ). x ++ rest) s.1 ∙ append_assoc s.0 text rest in
+      ap bytes_at regrouped ∙ rw (u32_reader.again s.0 (length text) (text ++ rest) s.2) (span_again text rest);
 }
 
 -- ---- several items
@@ -121,7 +121,7 @@ each_takes {A = A} read spells r (suc n) bytes xs rest e =
     let others = each_takes read spells r n a.0.1 b.0.0 b.0.1 b.1 in
     let made : List A × List ℕ = (a.0.0 ∷ b.0.0, b.0.1) in
     subst (λ (p : List A × List ℕ). (length p.0 ≡ suc n) × BeginsWith (SpellsEach spells) bytes p.0 p.1) (some_is made (xs, rest) b.2)
-      (ap suc others.0, (first.0 ++ others.1.0, (first.0, others.1.0, refl, first.1, others.1.1), first.2 ∙ (ap (λ (x : List ℕ). first.0 ++ x) others.1.2 ∙ sym (append_assoc first.0 others.1.0 b.0.1))))
+    (ap suc others.0, (first.0 ++ others.1.0, (first.0, others.1.0, refl, first.1, others.1.1), first.2 ∙ (ap (λ (x : List ℕ). first.0 ++ x) others.1.2 ∙ sym (append_assoc first.0 others.1.0 b.0.1))))
 
 each_again : {A : Type 0} (read : List ℕ → Option (A × List ℕ)) (spells : List ℕ → A → Type 0) → IsReader read spells → (front : List ℕ) (xs : List A) (rest : List ℕ) → SpellsEach spells front xs → each_at read (length xs) (front ++ rest) ≡ Some (xs, rest)
 unfolding each_at
@@ -134,27 +134,27 @@ pub vector_reader : {A : Type 0} (read : List ℕ → Option (A × List ℕ)) (s
 unfolding vector_at
 vector_reader read spells r = record {
   takes = λ bytes xs rest e.
-    let n = bind_some (u32_at bytes) (λ n. each_at read n.0 n.1) (xs, rest) e in
-    let c = u32_reader.takes bytes n.0.0 n.0.1 n.1 in
-    let i = each_takes read spells r n.0.0 n.0.1 xs rest n.2 in
-    (c.0 ++ i.1.0, (c.0, i.1.0, refl, subst (λ (k : ℕ). SpellsUnsigned 32 c.0 k) (sym i.0) c.1, i.1.1), c.2 ∙ (ap (λ (x : List ℕ). c.0 ++ x) i.1.2 ∙ sym (append_assoc c.0 i.1.0 rest)));
+      let n = bind_some (u32_at bytes) (λ n. each_at read n.0 n.1) (xs, rest) e in
+      let c = u32_reader.takes bytes n.0.0 n.0.1 n.1 in
+      let i = each_takes read spells r n.0.0 n.0.1 xs rest n.2 in
+      (c.0 ++ i.1.0, (c.0, i.1.0, refl, subst (λ (k : ℕ). SpellsUnsigned 32 c.0 k) (sym i.0) c.1, i.1.1), c.2 ∙ (ap (λ (x : List ℕ). c.0 ++ x) i.1.2 ∙ sym (append_assoc c.0 i.1.0 rest)));
   again = λ front xs rest s.
-    let regrouped : front ++ rest ≡ s.0 ++ (s.1 ++ rest) = ap (λ (x : List ℕ). x ++ rest) s.2 ∙ append_assoc s.0 s.1 rest in
-    ap (vector_at read) regrouped ∙ rw (u32_reader.again s.0 (length xs) (s.1 ++ rest) s.3) (each_again read spells r s.1 xs rest s.4);
+      let regrouped : front ++ rest ≡ s.0 ++ (s.1 ++ rest) = ap (λ (x : List ℕ). x ++ rest) s.2 ∙ append_assoc s.0 s.1 rest in
+      ap (vector_at read) regrouped ∙ rw (u32_reader.again s.0 (length xs) (s.1 ++ rest) s.3) (each_again read spells r s.1 xs rest s.4);
 }
 
 pub one_reader : {A : Type 0} (read : List ℕ → Option (A × List ℕ)) (spells : List ℕ → A → Type 0) → IsReader read spells → IsReader (one_at read) (SpellsOne spells)
 unfolding one_at
 one_reader read spells r = record {
   takes = λ bytes x rest e.
-    let n = bind_some (u32_at bytes) (λ n. cond (eqb n.0 1) (read n.1) None) (x, rest) e in
-    let g = guard_some (eqb n.0.0 1) (read n.0.1) (x, rest) n.2 in
-    let c = u32_reader.takes bytes n.0.0 n.0.1 n.1 in
-    let i = r.takes n.0.1 x rest g.1 in
-    (c.0 ++ i.0, (c.0, i.0, refl, subst (λ (k : ℕ). SpellsUnsigned 32 c.0 k) (eqb-true _ _ g.0) c.1, i.1), c.2 ∙ (ap (λ (y : List ℕ). c.0 ++ y) i.2 ∙ sym (append_assoc c.0 i.0 rest)));
+      let n = bind_some (u32_at bytes) (λ n. cond (eqb n.0 1) (read n.1) None) (x, rest) e in
+      let g = guard_some (eqb n.0.0 1) (read n.0.1) (x, rest) n.2 in
+      let c = u32_reader.takes bytes n.0.0 n.0.1 n.1 in
+      let i = r.takes n.0.1 x rest g.1 in
+      (c.0 ++ i.0, (c.0, i.0, refl, subst (λ (k : ℕ). SpellsUnsigned 32 c.0 k) (eqb-true _ _ g.0) c.1, i.1), c.2 ∙ (ap (λ (y : List ℕ). c.0 ++ y) i.2 ∙ sym (append_assoc c.0 i.0 rest)));
   again = λ front x rest s.
-    let regrouped : front ++ rest ≡ s.0 ++ (s.1 ++ rest) = ap (λ (y : List ℕ). y ++ rest) s.2 ∙ append_assoc s.0 s.1 rest in
-    ap (one_at read) regrouped ∙ rw (u32_reader.again s.0 1 (s.1 ++ rest) s.3) (r.again s.1 x rest s.4);
+      let regrouped : front ++ rest ≡ s.0 ++ (s.1 ++ rest) = ap (λ (y : List ℕ). y ++ rest) s.2 ∙ append_assoc s.0 s.1 rest in
+      ap (one_at read) regrouped ∙ rw (u32_reader.again s.0 1 (s.1 ++ rest) s.3) (r.again s.1 x rest s.4);
 }
 
 -- ---- contents
@@ -180,33 +180,33 @@ pub sized_reader : {A : Type 0} (read : List ℕ → Option (A × List ℕ)) (sp
 unfolding sized_at
 sized_reader {A = A} read spells r = record {
   takes = λ bytes x rest e.
-    let s = bind_some (bytes_at bytes) (λ s. all_at read s.0 >>= λ y. Some (y, s.1)) (x, rest) e in
-    let y = bind_some (all_at read s.0.0) (λ y. Some (y, s.0.1)) (x, rest) s.2 in
-    let b = bytes_reader.takes bytes s.0.0 s.0.1 s.1 in
-    let made : A × List ℕ = (y.0, s.0.1) in
-    let p = some_is made (x, rest) y.2 in
-    let inner = subst (λ (v : A). spells s.0.0 v) (ap (λ (v : A × List ℕ). v.0) p) (all_takes read spells r s.0.0 y.0 y.1) in
-    (b.0, (b.1.0, s.0.0, b.1.1, b.1.2, inner), b.2 ∙ ap (λ (z : List ℕ). b.0 ++ z) (ap (λ (v : A × List ℕ). v.1) p));
+      let s = bind_some (bytes_at bytes) (λ s. all_at read s.0 >>= λ y. Some (y, s.1)) (x, rest) e in
+      let y = bind_some (all_at read s.0.0) (λ y. Some (y, s.0.1)) (x, rest) s.2 in
+      let b = bytes_reader.takes bytes s.0.0 s.0.1 s.1 in
+      let made : A × List ℕ = (y.0, s.0.1) in
+      let p = some_is made (x, rest) y.2 in
+      let inner = subst (λ (v : A). spells s.0.0 v) (ap (λ (v : A × List ℕ). v.0) p) (all_takes read spells r s.0.0 y.0 y.1) in
+      (b.0, (b.1.0, s.0.0, b.1.1, b.1.2, inner), b.2 ∙ ap (λ (z : List ℕ). b.0 ++ z) (ap (λ (v : A × List ℕ). v.1) p));
   again = λ front x rest s.
-    rw (bytes_reader.again front s.1 rest (s.0, s.2, s.3), all_again read spells r s.1 x s.4) refl;
+      rw (bytes_reader.again front s.1 rest (s.0, s.2, s.3), all_again read spells r s.1 x s.4) refl;
 }
 
 pub section_reader : {A : Type 0} (id : ℕ) (read : List ℕ → Option (A × List ℕ)) (spells : List ℕ → A → Type 0) → IsReader read spells → IsReader (section_at id read) (SpellsSection id spells)
 unfolding section_at
 section_reader {A = A} id read spells r = record {
   takes = λ bytes x rest e.
-    let c = bind_some (content_at id bytes) (λ s. all_at read s.0 >>= λ y. Some (y, s.1)) (x, rest) e in
-    let a = bind_some (after_byte id bytes) bytes_at c.0 c.1 in
-    let y = bind_some (all_at read c.0.0) (λ y. Some (y, c.0.1)) (x, rest) c.2 in
-    let b = bytes_reader.takes a.0 c.0.0 c.0.1 a.2 in
-    let made : A × List ℕ = (y.0, c.0.1) in
-    let p = some_is made (x, rest) y.2 in
-    let inner = subst (λ (v : A). spells c.0.0 v) (ap (λ (v : A × List ℕ). v.0) p) (all_takes read spells r c.0.0 y.0 y.1) in
-    (id ∷ b.0, (b.0, refl, (b.1.0, c.0.0, b.1.1, b.1.2, inner)), after_takes id bytes a.0 a.1 ∙ ap (λ (z : List ℕ). id ∷ z) (b.2 ∙ ap (λ (z : List ℕ). b.0 ++ z) (ap (λ (v : A × List ℕ). v.1) p)));
+      let c = bind_some (content_at id bytes) (λ s. all_at read s.0 >>= λ y. Some (y, s.1)) (x, rest) e in
+      let a = bind_some (after_byte id bytes) bytes_at c.0 c.1 in
+      let y = bind_some (all_at read c.0.0) (λ y. Some (y, c.0.1)) (x, rest) c.2 in
+      let b = bytes_reader.takes a.0 c.0.0 c.0.1 a.2 in
+      let made : A × List ℕ = (y.0, c.0.1) in
+      let p = some_is made (x, rest) y.2 in
+      let inner = subst (λ (v : A). spells c.0.0 v) (ap (λ (v : A × List ℕ). v.0) p) (all_takes read spells r c.0.0 y.0 y.1) in
+      (id ∷ b.0, (b.0, refl, (b.1.0, c.0.0, b.1.1, b.1.2, inner)), after_takes id bytes a.0 a.1 ∙ ap (λ (z : List ℕ). id ∷ z) (b.2 ∙ ap (λ (z : List ℕ). b.0 ++ z) (ap (λ (v : A × List ℕ). v.1) p)));
   again = λ front x rest s.
-    let z = s.2 in
-    let begin : front ++ rest ≡ id ∷ (s.0 ++ rest) = ap (λ (y : List ℕ). y ++ rest) s.1 in
-    ap (section_at id read) begin ∙ rw (after_again id (s.0 ++ rest), bytes_reader.again s.0 z.1 rest (z.0, z.2, z.3), all_again read spells r z.1 x z.4) refl;
+      let z = s.2 in
+      let begin : front ++ rest ≡ id ∷ (s.0 ++ rest) = ap (λ (y : List ℕ). y ++ rest) s.1 in
+      ap (section_at id read) begin ∙ rw (after_again id (s.0 ++ rest), bytes_reader.again s.0 z.1 rest (z.0, z.2, z.3), all_again read spells r z.1 x z.4) refl;
 }
 
 pub optional_takes : {A : Type 0} (id : ℕ) (read : List ℕ → Option (A × List ℕ)) (spells : List ℕ → A → Type 0) → IsReader read spells → (bytes : List ℕ) (xs : List A) (rest : List ℕ) → optional_at id read bytes ≡ Some (xs, rest) → BeginsWith (SpellsOptional id spells) bytes xs rest
@@ -225,11 +225,11 @@ optional_takes {A = A} id read spells r bytes xs rest e =
 pub optional_again : {A : Type 0} (id : ℕ) (read : List ℕ → Option (A × List ℕ)) (spells : List ℕ → A → Type 0) → IsReader read spells → (front : List ℕ) (xs : List A) (rest : List ℕ) → begins_with id rest ≡ false → SpellsOptional id spells front xs → optional_at id read (front ++ rest) ≡ Some (xs, rest)
 unfolding optional_at
 optional_again {A = A} id read spells r front xs rest other s = elim s [
-    | inl there ↦
-        let begins : begins_with id (front ++ rest) ≡ true = ap (λ (y : List ℕ). begins_with id (y ++ rest)) there.1 ∙ eq-eqb id id refl in
-        rw begins ((section_reader id (vector_at read) (SpellsVector spells) (vector_reader read spells r)).again front xs rest there)
-    | inr left_out ↦
-        let nil : List A = [] in
-        let same : front ++ rest ≡ rest = ap (λ (y : List ℕ). y ++ rest) left_out.0 in
-        ap (optional_at id read) same ∙ rw other (ap (λ (ys : List A). some (ys, rest)) (sym left_out.1))
-  ]
+  | inl there ↦
+      let begins : begins_with id (front ++ rest) ≡ true = ap (λ (y : List ℕ). begins_with id (y ++ rest)) there.1 ∙ eq-eqb id id refl in
+      rw begins ((section_reader id (vector_at read) (SpellsVector spells) (vector_reader read spells r)).again front xs rest there)
+  | inr left_out ↦
+      let nil : List A = [] in
+      let same : front ++ rest ≡ rest = ap (λ (y : List ℕ). y ++ rest) left_out.0 in
+      ap (optional_at id read) same ∙ rw other (ap (λ (ys : List A). some (ys, rest)) (sym left_out.1))
+]

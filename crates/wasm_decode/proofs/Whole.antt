@@ -60,7 +60,7 @@ parts_takes bytes p rest e =
     let whole = joined5 s1.0 s2.0 s3.0 s7.0 s10.0 bytes a.0.1 b.0.1 c.0.1 d.0.1 f.0.1 s1.2 s2.2 s3.2 s7.2 s10.2 in
     let v : Parts × List ℕ = (made a.0.0 b.0.0 c.0.0 d.0.0 f.0.0, f.0.1) in
     subst (λ (v : Parts × List ℕ). BeginsWith SpellsParts bytes v.0 v.1) (some_is v (p, rest) f.2)
-      (s1.0 ++ (s2.0 ++ (s3.0 ++ (s7.0 ++ s10.0))), record { types = s1.0; imports = s2.0; function = s3.0; exports = s7.0; code = s10.0; parts = refl; type_section = s1.1; import_section = s2.1; function_section = s3.1; export_section = s7.1; code_section = s10.1 }, whole)
+    (s1.0 ++ (s2.0 ++ (s3.0 ++ (s7.0 ++ s10.0))), record { types = s1.0; imports = s2.0; function = s3.0; exports = s7.0; code = s10.0; parts = refl; type_section = s1.1; import_section = s2.1; function_section = s3.1; export_section = s7.1; code_section = s10.1 }, whole)
 
 pub parts_again : (front : List ℕ) (p : Parts) (rest : List ℕ) → SpellsParts front p → parts_at (front ++ rest) ≡ Some (p, rest)
 unfolding parts_at
@@ -72,7 +72,8 @@ parts_again front p rest s =
       optional_again 2 import_at SpellsImport import_reader s.imports p.imports (s.function ++ (s.exports ++ (s.code ++ rest))) other s.import_section,
       function_reader.again s.function p.function (s.exports ++ (s.code ++ rest)) s.function_section,
       exports_reader.again s.exports p.exports (s.code ++ rest) s.export_section,
-      body_reader.again s.code p.body rest s.code_section) refl
+      body_reader.again s.code p.body rest s.code_section,
+    ) refl
 
 pub parts_reader : IsReader parts_at SpellsParts
 parts_reader = record { takes = parts_takes; again = parts_again }

@@ -11,6 +11,7 @@ use std::alloc::{AllocError, Global};
 use std::collections::BTreeSet;
 
 const MAX_CALLS: usize = 15;
+
 const START: &[u8] = b"_start";
 
 /// The type that an imported function must have.

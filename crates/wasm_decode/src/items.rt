@@ -13,12 +13,19 @@ use crate::thin::{ThinImport, ThinInstr};
 use byte_cursor::Cursor;
 
 const I32: u8 = 0x7f;
+
 const FUNCTION_TYPE: u8 = 0x60;
+
 const FUNCTION: u8 = 0x00;
+
 const I32_CONST: u8 = 0x41;
+
 const CALL: u8 = 0x10;
+
 const DROP: u8 = 0x1a;
+
 const WASI: &[u8] = b"wasi_snapshot_preview1";
+
 const PROC_EXIT: &[u8] = b"proc_exit";
 
 /// A function type over i32: how many parameters and how many results.

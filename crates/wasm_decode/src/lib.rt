@@ -10,4 +10,8 @@ mod reading;
 mod thin;
 
 pub use fault::ThinFault;
+pub use read::{one_thin_module, read_thin};
 pub use thin::{Thin, ThinImport, ThinInstr};
+
+#[cfg(test)]
+mod tests;

@@ -5,18 +5,26 @@ ghost use Rattle.wasm_decode.specs.Reading.{Gives, GivesRest, func_type_at, impo
 ghost use Rattle.wasm_decode.specs.Views.{export_views, parts_view};
 
 use crate::fault::ThinFault;
-use crate::items::{Export, FuncType, Import, instruction, no_locals, read_export, read_func_type, read_import};
+use crate::items::{
+    Export, FuncType, Import, instruction, no_locals, read_export, read_func_type, read_import,
+};
 use crate::reading::{all_read, byte, byte_vector, expect, number, section};
 use crate::thin::ThinInstr;
 use byte_cursor::Cursor;
 use std::alloc::Global;
 
 const TYPE_SECTION: u8 = 1;
+
 const IMPORT_SECTION: u8 = 2;
+
 const FUNCTION_SECTION: u8 = 3;
+
 const EXPORT_SECTION: u8 = 7;
+
 const CODE_SECTION: u8 = 10;
+
 const END: u8 = 0x0b;
+
 const MAX_INSTRUCTIONS: u32 = 1000;
 
 /// What the sections of a module hold.
@@ -30,11 +38,7 @@ pub struct Parts<'a> {
     pub body: Vec<ThinInstr>,
 }
 
-fn types_of(
-    alloc: Global,
-    cursor: &mut Cursor,
-    count: u32,
-) -> Result<Vec<FuncType>, ThinFault>
+fn types_of(alloc: Global, cursor: &mut Cursor, count: u32) -> Result<Vec<FuncType>, ThinFault>
     ensures { Gives (λ v. v.items) result cursor.new (each_at func_type_at count cursor.old) }
 {
     let mut types = Vec::new(alloc);
@@ -45,11 +49,7 @@ fn types_of(
     Ok(types)
 }
 
-fn imports_of(
-    alloc: Global,
-    cursor: &mut Cursor,
-    count: u32,
-) -> Result<Vec<Import>, ThinFault>
+fn imports_of(alloc: Global, cursor: &mut Cursor, count: u32) -> Result<Vec<Import>, ThinFault>
     ensures { Gives (λ v. v.items) result cursor.new (each_at import_at count cursor.old) }
 {
     let mut imports = Vec::new(alloc);
@@ -157,10 +157,7 @@ fn function_section(cursor: &mut Cursor) -> Result<u32, ThinFault>
 }
 
 #[tactic(auto, unfolding(crate::specs::Reading::section_at, crate::specs::Reading::all_at, crate::specs::Reading::vector_at))]
-fn export_section<'a>(
-    alloc: Global,
-    cursor: &mut Cursor<'a>,
-) -> Result<Vec<Export<'a>>, ThinFault>
+fn export_section<'a>(alloc: Global, cursor: &mut Cursor<'a>) -> Result<Vec<Export<'a>>, ThinFault>
     ensures { Gives (λ v. export_views v.items) result cursor.new (section_at 7 (vector_at export_at) cursor.old) }
 {
     let mut content = section(cursor, EXPORT_SECTION)?;
