@@ -1,4 +1,6 @@
+pub mod Answer
 pub mod Grammar
-pub mod ThinModule
-pub mod ThinGrammar
 pub mod Reading
+pub mod ThinGrammar
+pub mod ThinModule
+pub mod Views

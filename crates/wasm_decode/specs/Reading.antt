@@ -5,7 +5,9 @@ use Rattle.std.specs.List.{list_all}
 use Rattle.std.specs.Str.{bytes_eq, is_utf8}
 use Rattle.byte_cursor.specs.declared.leb.CursorFault.{CursorFault}
 use Rattle.byte_cursor.specs.Reading.{byte_at as cursor_byte_at, span_at as cursor_span_at, unsigned_at, signed_at}
-use Rattle.wasm_decode.specs.ThinGrammar.{FuncType, Import, Export, Parts, import_name}
+use Rattle.wasm_decode.specs.ThinGrammar.{Export, Parts, import_name}
+use Rattle.wasm_decode.specs.declared.items.FuncType.{FuncType}
+use Rattle.wasm_decode.specs.declared.items.Import.{Import}
 use Rattle.wasm_decode.specs.declared.fault.ThinFault.{ThinFault}
 use Rattle.wasm_decode.specs.declared.fault.ThinFault.TheVariants.{Malformed, NotYet, Memory}
 use Rattle.wasm_decode.specs.declared.thin.ThinImport.{ThinImport}
@@ -29,7 +31,13 @@ abbrev pub GivesAll : {X Y : Type 0} → (X → Y) → Result X ThinFault → Op
 GivesAll view (Ok x) read = read ≡ Some (view x)
 GivesAll view (Err e) read = Fails e read
 
+-- the same for a function that gives no value
+abbrev pub GivesRest : {X : Type 0} → Result X ThinFault → List ℕ → Option (List ℕ) → Type 0
+GivesRest (Ok x) new read = read ≡ Some new
+GivesRest (Err e) new read = Fails e read
+
 infixl 10 ◌>>=◌
+-- what is read first, and then what comes of it
 abbrev pub ◌>>=◌ : {A B : Type 0} → Option A → (A → Option B) → Option B
 None >>= f = None
 (Some x) >>= f = f x
@@ -79,11 +87,15 @@ one_at item bytes = do
   n ← u32_at bytes
   if n.0 == 1 then item n.1 else None
 
+abbrev pub nothing_left : List ℕ → Option (Unit {0})
+nothing_left bytes = if length bytes == 0 then Some tt else None
+
 -- all of the bytes
 unfoldable pub all_at : {A : Type 0} → (List ℕ → Option (A × List ℕ)) → List ℕ → Option A
 all_at content bytes = do
   x ← content bytes
-  if length x.1 == 0 then Some x.0 else None
+  end ← nothing_left x.1
+  Some x.0
 
 unfoldable pub sized_at : {A : Type 0} → (List ℕ → Option (A × List ℕ)) → List ℕ → Option (A × List ℕ)
 sized_at content bytes = do
@@ -91,10 +103,17 @@ sized_at content bytes = do
   x ← all_at content s.0
   Some (x, s.1)
 
+-- the content of a section
+abbrev pub content_at : ℕ → List ℕ → Option (List ℕ × List ℕ)
+content_at id bytes = do
+  rest ← after_byte id bytes
+  bytes_at rest
+
 unfoldable pub section_at : {A : Type 0} → ℕ → (List ℕ → Option (A × List ℕ)) → List ℕ → Option (A × List ℕ)
 section_at id content bytes = do
-  rest ← after_byte id bytes
-  sized_at content rest
+  s ← content_at id bytes
+  x ← all_at content s.0
+  Some (x, s.1)
 
 abbrev pub begins_with : ℕ → List ℕ → Bool
 begins_with id [] = false
@@ -162,10 +181,14 @@ no_locals_at bytes = do
   rest ← (if n.0 == 0 then after_byte 0x7f n.1 else None)
   Some (tt, rest)
 
+-- the bytes behind what is read
+abbrev pub rest_of : {A : Type 0} → Option (A × List ℕ) → Option (List ℕ)
+rest_of read = read >>= λ x. Some x.1
+
 unfoldable pub code_at : List ℕ → Option (List ThinInstr × List ℕ)
 code_at bytes = do
-  locals ← vector_at no_locals_at bytes
-  expr_at 1000 locals.1
+  rest ← rest_of (vector_at no_locals_at bytes)
+  expr_at 1000 rest
 
 unfoldable pub parts_at : List ℕ → Option (Parts × List ℕ)
 parts_at bytes = do

@@ -1,26 +1,18 @@
 -- Which bytes spell a thin module: the binary format of WebAssembly Core 1.0, chapter 5, cut to the
 -- sections 1, 2, 3, 7 and 10, to i32 and to the instructions of a thin module, and the conditions of
 -- chapter 3. Numbers may be spelled longer than they need, within the bound of 5.2.2.
-use Rattle.std.specs.Prelude.{◌≡◌, ◌≢◌, ◌≤◌, ℕ, ℤ, List, [], ◌∷◌, ◌++◌, length, map, Option, Some, slice_get, All, AllPairs, Contains, codes}
+use Rattle.std.specs.Prelude.{◌≡◌, ◌≢◌, ◌≤◌, ℕ, ℤ, List, [], ◌∷◌, ◌++◌, length, map, Option, Some, slice_get, All, Any, AllPairs, codes}
 use Rattle.std.specs.Int.{w32, cast_unsigned}
 use Rattle.std.specs.List.{AllByRecursion}
 use Rattle.byte_cursor.specs.Integers.{SpellsUnsigned, SpellsSigned}
 use Rattle.wasm_decode.specs.Grammar.{SpellsEach, SpellsVector, SpellsOne, SpellsBytes, SpellsName, SpellsSized, SpellsSection, SpellsOptional}
 use Rattle.wasm_decode.specs.ThinModule.{ThinModule, IsValid, takes, gives}
+use Rattle.wasm_decode.specs.declared.items.FuncType.{FuncType}
+use Rattle.wasm_decode.specs.declared.items.Import.{Import}
 use Rattle.wasm_decode.specs.declared.thin.ThinImport.{ThinImport}
 use Rattle.wasm_decode.specs.declared.thin.ThinImport.TheVariants.{ProcExit}
 use Rattle.wasm_decode.specs.declared.thin.ThinInstr.{ThinInstr}
 use Rattle.wasm_decode.specs.declared.thin.ThinInstr.TheVariants.{Const, Call, Drop}
-
--- a function type over i32: how many parameters and how many results
-pub record FuncType : Type 0 where
-  pub params : ℕ
-  pub results : ℕ
-
--- an imported function, and the number of its type
-pub record Import : Type 0 where
-  pub what : ThinImport
-  pub of : ℕ
 
 -- an exported function: its name and its number
 pub record Export : Type 0 where
@@ -55,9 +47,9 @@ SpellsInstr bytes (Const n) = (number : List ℕ) × (z : ℤ) × (bytes ≡ 0x4
 SpellsInstr bytes (Call index) = (number : List ℕ) × (bytes ≡ 0x10 ∷ number) × SpellsUnsigned 32 number index
 SpellsInstr bytes Drop = bytes ≡ 0x1a ∷ []
 
--- 5.4.6: an expression, instructions and then the end
+-- 5.4.6: an expression, instructions, here at most 1,000, and then the end
 abbrev pub SpellsExpr : List ℕ → List ThinInstr → Type 0
-SpellsExpr bytes is = (front : List ℕ) × (bytes ≡ front ++ 0x0b ∷ []) × SpellsEach SpellsInstr front is
+SpellsExpr bytes is = (front : List ℕ) × (bytes ≡ front ++ 0x0b ∷ []) × (length is ≤ 1000) × SpellsEach SpellsInstr front is
 
 -- 5.5.13: a group of no locals, which leaves no trace
 abbrev pub SpellsNoLocals : List ℕ → Unit {0} → Type 0
@@ -94,6 +86,10 @@ pub record SpellsParts (bytes : List ℕ) (p : Parts) : Type 0 where
 abbrev pub type_of : ThinImport → FuncType
 type_of import = record { params = takes import; results = gives import }
 
+-- the type of a function without parameters and results
+abbrev pub plain_type : FuncType
+plain_type = record { params = 0; results = 0 }
+
 -- what is kept of the parts
 abbrev pub module_of : Parts → ThinModule
 module_of p = record { imports = map (λ i. i.what) p.imports; body = p.body }
@@ -104,21 +100,20 @@ module_of p = record { imports = map (λ i. i.what) p.imports; body = p.body }
 pub record IsThin (p : Parts) : Type 0 where
   pub results : All (λ t. t.results ≤ 1) p.types
   pub imports : All (λ i. slice_get p.types i.of ≡ Some (type_of i.what)) p.imports
-  pub function : slice_get p.types p.function ≡ Some (record { params = 0; results = 0 })
+  pub function : slice_get p.types p.function ≡ Some plain_type
   pub in_range : All (λ e. e.index ≤ length p.imports) p.exports
   pub differ : AllPairs (λ d e. d.name ≢ e.name) p.exports
-  pub start : Contains p.exports (record { name = codes "_start"; index = length p.imports })
+  pub start : Any (λ e. (e.name ≡ codes "_start") × (e.index ≡ length p.imports)) p.exports
   pub valid : IsValid (module_of p)
+
+-- the bytes behind the preamble spell a thin module
+abbrev pub SpellsSections : List ℕ → ThinModule → Type 0
+SpellsSections bytes m = (p : Parts) × SpellsParts bytes p × IsThin p × (m ≡ module_of p)
 
 -- 5.5.15: what stands in front of the sections, the magic number and the version
 abbrev pub preamble : List ℕ
 preamble = 0x00 ∷ 0x61 ∷ 0x73 ∷ 0x6d ∷ 0x01 ∷ 0x00 ∷ 0x00 ∷ 0x00 ∷ []
 
 -- the bytes spell a thin module
-pub record SpellsThin (bytes : List ℕ) (m : ThinModule) : Type 0 where
-  pub rest : List ℕ
-  pub parts : Parts
-  pub begins : bytes ≡ preamble ++ rest
-  pub spelled : SpellsParts rest parts
-  pub thin : IsThin parts
-  pub module_is : m ≡ module_of parts
+abbrev pub SpellsThin : List ℕ → ThinModule → Type 0
+SpellsThin bytes m = (rest : List ℕ) × (bytes ≡ preamble ++ rest) × SpellsSections rest m

@@ -10,6 +10,9 @@ pub record ThinModule : Type 0 where
   pub imports : List ThinImport
   pub body : List ThinInstr
 
+abbrev pub module_with : List ThinImport → List ThinInstr → ThinModule
+module_with imports body = record { imports = imports; body = body }
+
 -- how many operands, all of i32, an imported function takes, and how many results it gives
 abbrev pub takes : ThinImport → ℕ
 takes ProcExit = 1

@@ -43,7 +43,14 @@ impl Model for Thin {
 }
 
 impl Thin {
-    ghost use Rattle.wasm_decode.specs.ThinModule.{IsValid};
+    ghost use Rattle.wasm_decode.specs.ThinModule.{IsValid, module_with};
+
+    pub(crate) fn new(imports: Vec<ThinImport>, body: Vec<ThinInstr>) -> Thin
+        requires { IsValid (module_with imports.items body.items) }
+        ensures { result ≡ module_with imports.items body.items }
+    {
+        Thin { imports, body }
+    }
 
     /// The imported functions, by their numbers.
     pub fn imports(&self) -> &[ThinImport]
