@@ -14,7 +14,7 @@ use crate::journal::Journal;
 use interp::advance::advance;
 use interp::thread::{Stop, Thread};
 use std::alloc::{AllocError, Global};
-use wasm_decode::{Thin, one_reading};
+use wasm_decode::{Thin, one_thin_module};
 use wx_types::{Entry, Outcome};
 
 /// The steps of one slice, where the command line names no other number.
@@ -103,7 +103,7 @@ pub fn run_one(alloc: Global, program: &Thin) -> Finished
     // It exited exactly where the run ended so.
     ensures exited { (boot : Boot) (code : ℕ) → Begins boot program.now → (result.why ≡ Why.Exited code) ↔ EndsAs boot result.journal (Exited code) }
 {
-    one_reading();
+    one_thin_module();
     let mut journal = Journal::new(alloc);
     match first_turn(alloc, program) {
         Ok(LastTurn { entry, code }) => match journal.push(entry) {

@@ -114,7 +114,7 @@ module _ (words : List (List ℕ)) (files : Files) (file : List ℕ) (command : 
 
 -- SpellsThin says how the bytes begin
 pub begins : (bytes : List ℕ) (program : ThinModule) → SpellsThin bytes program → take 8 bytes ≡ preamble
-begins bytes program spelled = ?
+begins bytes program spelled = ap (take 8) spelled.1
 
 -- ---- the answers
 

@@ -11,6 +11,19 @@ pub enum ThinImport {
     ProcExit,
 }
 
+impl ThinImport {
+    ghost use Rattle.wasm_decode.specs.ThinModule.{takes};
+
+    /// How many operands, all of i32, a call of the function takes.
+    pub fn takes(self) -> usize
+        ensures { result ≡ takes self }
+    {
+        match self {
+            ThinImport::ProcExit => 1,
+        }
+    }
+}
+
 /// An instruction of a thin module's own function.
 #[derive(Clone, Copy, Debug, PartialEq, Eq)]
 pub enum ThinInstr {

@@ -22,13 +22,13 @@ pub returns-in-Ok-push-clause-order : goal.returns-in-Ok-push-clause-order
 returns-in-Ok-push-clause-order c = λ boot begins.
     let kept : c.push.new.self ≡ c.in-Ok.field-0.entry ∷ [] = c.in-Ok-push.ensures.ok ∙ ap (λ (j : List Entry). j ++ c.in-Ok.field-0.entry ∷ []) c.new-journal.ensures in
     let leads = c.in-Ok.ensures.leads boot begins in
-    subst (λ (j : List Entry). InOrder boot j) (sym kept) (in_order c.one_reading.ensures boot (c.in-Ok.field-0.entry ∷ []) leads.0 (one_runs boot c.args.program.now c.in-Ok.field-0.entry c.in-Ok.field-0.code begins leads))
+    subst (λ (j : List Entry). InOrder boot j) (sym kept) (in_order c.one_thin_module.ensures boot (c.in-Ok.field-0.entry ∷ []) leads.0 (one_runs boot c.args.program.now c.in-Ok.field-0.entry c.in-Ok.field-0.code begins leads))
 
 pub returns-in-Ok-push-clause-exited : goal.returns-in-Ok-push-clause-exited
 returns-in-Ok-push-clause-exited c = λ boot code begins.
     let kept : c.push.new.self ≡ c.in-Ok.field-0.entry ∷ [] = c.in-Ok-push.ensures.ok ∙ ap (λ (j : List Entry). j ++ c.in-Ok.field-0.entry ∷ []) c.new-journal.ensures in
     subst (λ (j : List Entry). (ExitedWhy c.in-Ok.field-0.code ≡ ExitedWhy code) ↔ EndsAs boot j (Exited code)) (sym kept)
-      (one_ended c.one_reading.ensures boot c.args.program.now c.in-Ok.field-0.entry c.in-Ok.field-0.code code begins (c.in-Ok.ensures.leads boot begins))
+      (one_ended c.one_thin_module.ensures boot c.args.program.now c.in-Ok.field-0.entry c.in-Ok.field-0.code code begins (c.in-Ok.ensures.leads boot begins))
 
 pub returns-in-Err-push-clause-run : goal.returns-in-Err-push-clause-run
 returns-in-Err-push-clause-run c = λ boot begins.
