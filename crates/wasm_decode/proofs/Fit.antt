@@ -1,5 +1,5 @@
 -- The parts as the code keeps them fit together exactly where the parts that the bytes spell do.
-use Rattle.std.proofs.Common.{◌≡◌, ℕ, ◌+◌, ◌≤◌, ◌<◌, List, [], ◌∷◌, ◌++◌, length, get_or, map, Option, Some, None, Result, Ok, Err, refl, sym, ap, subst, ◌∙◌, arith}
+use Rattle.std.proofs.Common.{◌≡◌, ℕ, ◌≤◌, ◌<◌, List, [], ◌∷◌, length, get_or, Some, None, Err, sym, ap, subst, ◌∙◌, arith}
 use Rattle.std.specs.Prelude.{All, Any, AllPairs, codes}
 use Rattle.std.proofs.lemmas.List.{get_or-map, length-map, get_or_default}
 use Rattle.std.proofs.lemmas.List.Elements.{All-map}
@@ -7,7 +7,7 @@ use Rattle.wasm_decode.specs.declared.items.Export.{Export as KeptExport}
 use Rattle.wasm_decode.specs.declared.parts.Parts.{Parts as KeptParts}
 use Rattle.wasm_decode.specs.declared.fault.ThinFault.{ThinFault}
 use Rattle.wasm_decode.specs.declared.fault.ThinFault.TheVariants.{Malformed, NotYet, Memory}
-use Rattle.wasm_decode.specs.ThinModule.{ThinModule, IsValid}
+use Rattle.wasm_decode.specs.ThinModule.{ThinModule}
 use Rattle.wasm_decode.specs.ThinGrammar.{Export, Parts, IsThin, SpellsParts, SpellsSections, module_of}
 use Rattle.wasm_decode.specs.Reading.{Fails, all_at, parts_at}
 use Rattle.wasm_decode.specs.Answer.{Answers}

@@ -1,14 +1,13 @@
 -- Each item of a thin module: what is read is spelled, and what is spelled is read.
-use Rattle.std.proofs.Common.{◌≡◌, ℕ, ℤ, zero, suc, ◌+◌, ◌-◌, ◌≤◌, ◌<◌, Bool, true, false, ◌&&◌, cond, eqb, List, [], ◌∷◌, ◌++◌, length, Option, Some, None, refl, sym, ap, subst, ◌∙◌, append_assoc, arith, inl, inr, ne_eqb}
+use Rattle.std.proofs.Common.{◌≡◌, ℕ, zero, suc, ◌≤◌, Bool, true, false, ◌&&◌, cond, eqb, List, [], ◌∷◌, ◌++◌, length, Option, Some, None, refl, sym, ap, subst, ◌∙◌, append_assoc, arith, inl, inr, ne_eqb}
 use Rattle.std.specs.Prelude.{codes}
 use Rattle.std.specs.Int.{w32, cast_unsigned}
 use Rattle.std.specs.List.{list_all, AllByRecursion}
-use Rattle.std.specs.Str.{bytes_eq, is_utf8, IsUtf8}
+use Rattle.std.specs.Str.{bytes_eq, is_utf8}
 use Rattle.std.proofs.lemmas.Bool.{eqb-true, eq-eqb}
-use Rattle.std.proofs.lemmas.List.{append-nil}
 use Rattle.std.proofs.lemmas.Slice.Eq.{bytes_eq-Decides}
 use Rattle.std.proofs.lemmas.Str.{is_utf8-from_IsUtf8, IsUtf8-from_is_utf8}
-use Rattle.byte_cursor.specs.Integers.{SpellsUnsigned, SpellsSigned, BeginsWith}
+use Rattle.byte_cursor.specs.Integers.{SpellsUnsigned, BeginsWith}
 use Rattle.byte_cursor.proofs.Laws.{chosen}
 use Rattle.wasm_decode.specs.declared.items.FuncType.{FuncType}
 use Rattle.wasm_decode.specs.declared.items.Import.{Import}
@@ -16,9 +15,9 @@ use Rattle.wasm_decode.specs.declared.thin.ThinImport.{ThinImport}
 use Rattle.wasm_decode.specs.declared.thin.ThinImport.TheVariants.{ProcExit}
 use Rattle.wasm_decode.specs.declared.thin.ThinInstr.{ThinInstr}
 use Rattle.wasm_decode.specs.declared.thin.ThinInstr.TheVariants.{Const, Call, Drop}
-use Rattle.wasm_decode.specs.Grammar.{SpellsEach, SpellsVector, SpellsOne, SpellsBytes, SpellsSized, SpellsSection, SpellsOptional}
-use Rattle.wasm_decode.specs.ThinGrammar.{Export, SpellsI32s, SpellsFuncType, import_name, SpellsImport, SpellsExport, SpellsInstr, SpellsExpr, SpellsNoLocals, SpellsCode}
-use Rattle.wasm_decode.specs.Reading.{◌>>=◌, byte_at, u32_at, i32_at, after_byte, bytes_at, each_at, vector_at, i32s_at, func_type_at, import_of, import_at, export_at, instr_of, expr_at, no_locals_at, rest_of, code_at}
+use Rattle.wasm_decode.specs.Grammar.{SpellsEach, SpellsBytes}
+use Rattle.wasm_decode.specs.ThinGrammar.{Export, SpellsI32s, SpellsFuncType, import_name, SpellsImport, SpellsExport, SpellsInstr, SpellsNoLocals, SpellsCode}
+use Rattle.wasm_decode.specs.Reading.{◌>>=◌, byte_at, u32_at, i32_at, after_byte, bytes_at, vector_at, i32s_at, func_type_at, import_of, import_at, export_at, instr_of, expr_at, no_locals_at, rest_of, code_at}
 use Rattle.wasm_decode.proofs.Readers.{some, some_is, bind_some, guard_some, IsReader, u32_reader, i32_reader, bytes_reader, byte_takes, byte_again, after_takes, after_again, vector_reader}
 
 and_true : (a b : Bool) → (a && b) ≡ true → (a ≡ true) × (b ≡ true)

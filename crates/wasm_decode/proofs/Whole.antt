@@ -1,5 +1,5 @@
 -- All the sections: what is read is spelled, and what is spelled is read.
-use Rattle.std.proofs.Common.{◌≡◌, ℕ, false, List, [], ◌∷◌, ◌++◌, Option, Some, None, refl, sym, ap, subst, ◌∙◌, append_assoc}
+use Rattle.std.proofs.Common.{◌≡◌, ℕ, false, List, ◌++◌, Option, Some, refl, sym, ap, subst, ◌∙◌, append_assoc}
 use Rattle.byte_cursor.specs.Integers.{SpellsUnsigned, BeginsWith}
 use Rattle.wasm_decode.specs.declared.items.FuncType.{FuncType}
 use Rattle.wasm_decode.specs.declared.items.Import.{Import}

@@ -1,7 +1,7 @@
 -- Which bytes spell a thin module: the binary format of WebAssembly Core 1.0, chapter 5, cut to the
 -- sections 1, 2, 3, 7 and 10, to i32 and to the instructions of a thin module, and the conditions of
 -- chapter 3. Numbers may be spelled longer than they need, within the bound of 5.2.2.
-use Rattle.std.specs.Prelude.{◌≡◌, ◌≢◌, ◌≤◌, ℕ, ℤ, List, [], ◌∷◌, ◌++◌, length, map, Option, Some, slice_get, All, Any, AllPairs, codes}
+use Rattle.std.specs.Prelude.{◌≡◌, ◌≢◌, ◌≤◌, ℕ, ℤ, List, [], ◌∷◌, ◌++◌, length, map, Some, slice_get, All, Any, AllPairs, codes}
 use Rattle.std.specs.Int.{w32, cast_unsigned}
 use Rattle.std.specs.List.{AllByRecursion}
 use Rattle.byte_cursor.specs.Integers.{SpellsUnsigned, SpellsSigned}

@@ -148,7 +148,8 @@ fn function_section(cursor: &mut Cursor) -> Result<u32, ThinFault>
     ensures { Gives (λ n. n) result cursor.new (section_at 3 (one_at u32_at) cursor.old) }
 {
     let mut content = section(cursor, FUNCTION_SECTION)?;
-    if number(&mut content)? != 1 {
+    let functions = number(&mut content)?;
+    if functions != 1 {
         return Err(ThinFault::NotYet);
     }
     let function = number(&mut content)?;

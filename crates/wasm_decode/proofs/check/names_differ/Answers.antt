@@ -1,4 +1,4 @@
-use Rattle.std.proofs.Common.{◌≡◌, refl, sym, subst, arith, take, length, ◌≤◌, get_or, List, ◌∙◌}
+use Rattle.std.proofs.Common.{◌≡◌, sym, subst, take, List, ◌∙◌}
 use Rattle.std.specs.Prelude.{AllPairs}
 use Rattle.std.proofs.lemmas.List.{take_all}
 use Rattle.wasm_decode.specs.declared.items.Export.{Export as KeptExport}

@@ -1,4 +1,3 @@
-use Rattle.std.proofs.Common.{◌≡◌, ◌++◌, ◌∷◌, [], arith}
 use Rattle.std.proofs.lemmas.Result.{err_from_is_err_and}
 use Rattle.wasm_decode.specs.Reading.{expr_at}
 use Rattle.wasm_decode.proofs.Loop.{expr_ends, expr_goes_on, expr_no_byte, expr_no_instr, expr_full, expr_no_end}

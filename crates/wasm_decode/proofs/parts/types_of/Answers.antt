@@ -1,4 +1,3 @@
-use Rattle.std.proofs.Common.{◌≡◌, ◌++◌, ◌∷◌, []}
 use Rattle.std.proofs.lemmas.Result.{err_from_is_err_and}
 use Rattle.wasm_decode.specs.Reading.{each_at, func_type_at}
 use Rattle.wasm_decode.proofs.Loop.{goes_on, ends, is_done}
