@@ -11,7 +11,7 @@ use Rattle.wasm_decode.specs.declared.thin.ThinImport.TheVariants.{ProcExit}
 use Rattle.wasm_decode.specs.declared.thin.ThinInstr.{ThinInstr}
 use Rattle.wasm_decode.specs.declared.thin.ThinInstr.TheVariants.{Const, Call, Drop}
 use Rattle.interp.specs.declared.thread.Stop.TheVariants.{Call as CallStop}
-use Rattle.interp.specs.Memory.{Memory}
+use Rattle.linear_memory.specs.LinearMemory.{LinearMemory}
 use Rattle.interp.specs.GuestThread.{Frame, GuestThread, Snapshot, frames_of, thread_of, frame_arguments, arguments}
 use Rattle.interp.specs.Step.{Stepped, Next, AtCall, Finished, Stuck, step, step_code, step_drop, step_frames}
 use Rattle.interp.specs.Stops.{StopsAs}
@@ -31,18 +31,18 @@ called_at : (imports : List ThinImport) (code : List ThinInstr) (i h : ℕ) (o :
 called_at imports code i h None is e = absurd (let never : ⊥ = cc in never)
 called_at imports code i h (Some import) is e = enough_for imports code i h import is (nat_le (takes import) h) refl e
 
-stands_code : (imports : List ThinImport) (m : Memory) (t : GuestThread) (callers : List Frame) (code : List ThinInstr) (os : List ℕ) (i : ℕ) → heights imports code (length os) ≡ Some 0 → StopsAs (step_code m t callers code os) (CallStop i) → Calls imports i (length os)
+stands_code : (imports : List ThinImport) (m : LinearMemory) (t : GuestThread) (callers : List Frame) (code : List ThinInstr) (os : List ℕ) (i : ℕ) → heights imports code (length os) ≡ Some 0 → StopsAs (step_code m t callers code os) (CallStop i) → Calls imports i (length os)
 stands_code imports m t callers [] os i typed s = absurd s
 stands_code imports m t callers (Const n ∷ code) os i typed s = absurd s
 stands_code imports m t callers (Call f ∷ code) os i typed s = subst (λ j. Calls imports j (length os)) s (called_at imports code f (length os) (slice_get imports f) refl typed)
 stands_code imports m t callers (Drop ∷ code) [] i typed s = absurd s
 stands_code imports m t callers (Drop ∷ code) (o ∷ os) i typed s = absurd s
 
-calling_at : (p : ThinModule) (k : Snapshot) (m : Memory) (i : ℕ) (r : Bool) → k.returned ≡ r → AllByRecursion (FitsFrame p) (if r then [] else record { code = drop k.position p.body; operands = reverse k.operands } ∷ []) → StopsAs (step_frames m (thread_of p k) (if r then [] else record { code = drop k.position p.body; operands = reverse k.operands } ∷ [])) (CallStop i) → Calls p.imports i (length k.operands) × (k.returned ≡ false)
+calling_at : (p : ThinModule) (k : Snapshot) (m : LinearMemory) (i : ℕ) (r : Bool) → k.returned ≡ r → AllByRecursion (FitsFrame p) (if r then [] else record { code = drop k.position p.body; operands = reverse k.operands } ∷ []) → StopsAs (step_frames m (thread_of p k) (if r then [] else record { code = drop k.position p.body; operands = reverse k.operands } ∷ [])) (CallStop i) → Calls p.imports i (length k.operands) × (k.returned ≡ false)
 calling_at p k m i true is fits s = absurd s
 calling_at p k m i false is fits s = (subst (Calls p.imports i) (length-reverse k.operands) (stands_code p.imports m (thread_of p k) [] (drop k.position p.body) (reverse k.operands) i fits.0.typed s), is)
 
-pub calling : (p : ThinModule) (k : Snapshot) (m : Memory) (i : ℕ) → Fits p (thread_of p k) → StopsAs (step p m (thread_of p k)) (CallStop i) → Calls p.imports i (length k.operands) × (k.returned ≡ false)
+pub calling : (p : ThinModule) (k : Snapshot) (m : LinearMemory) (i : ℕ) → Fits p (thread_of p k) → StopsAs (step p m (thread_of p k)) (CallStop i) → Calls p.imports i (length k.operands) × (k.returned ≡ false)
 calling p k m i fits s = calling_at p k m i k.returned refl fits s
 
 -- the last n of a list, in their order

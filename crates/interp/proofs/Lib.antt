@@ -1,2 +1,4 @@
 pub mod After
 pub mod Calls
+pub mod AnyMemory
+pub mod Answered

@@ -43,3 +43,15 @@ frame_arguments (frame ∷ frames) count = reverse (take count frame.operands)
 -- the arguments of the call that the thread stands at
 abbrev pub arguments : GuestThread → ℕ → List ℕ
 arguments thread count = frame_arguments thread.frames count
+
+-- the frame past the call that it stands at, with these values in the place of so many arguments
+abbrev pub frame_answered : Frame → ℕ → List ℕ → Frame
+frame_answered frame count values = record { code = drop 1 frame.code; operands = values ++ drop count frame.operands }
+
+abbrev pub frames_answered : List Frame → ℕ → List ℕ → List Frame
+frames_answered [] count values = []
+frames_answered (frame ∷ frames) count values = frame_answered frame count values ∷ frames
+
+-- the thread past the call that it stands at
+abbrev pub answered : GuestThread → ℕ → List ℕ → GuestThread
+answered thread count values = record { frames = frames_answered thread.frames count values; main = thread.main }

@@ -1,4 +1,3 @@
-pub mod Memory
 pub mod GuestThread
 pub mod Step
 pub mod Fits

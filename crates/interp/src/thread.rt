@@ -1,8 +1,8 @@
-ghost use Rattle.std.specs.Prelude.{◌≡◌, ◌+◌, ◌≤◌, IfOk, IfSome, IsSome, length, slice_get, ◌≢◌, IfNone, MatchOption, OnOk, false};
+ghost use Rattle.std.specs.Prelude.{◌≡◌, ◌+◌, ◌≤◌, ◌-◌, ◌<◌, ◌++◌, ◌∷◌, [], take, Some, IfOk, IfSome, IsSome, length, slice_get, ◌≢◌, IfNone, MatchOption, OnOk, false};
 
 use std::alloc::{AllocError, Global};
 use std::marker::Model;
-use wasm_decode::{Thin, ThinInstr};
+use wasm_decode::{Thin, ThinImport, ThinInstr};
 
 /// What a thread stands at when the interpreter stops.
 #[derive(Clone, Copy, Debug, PartialEq, Eq)]
@@ -33,14 +33,25 @@ impl Model for Thread {
     ghost view = { λ t. record { position = t.position; operands = t.operands.items; returned = t.returned; main = t.main } };
 }
 
+// One value in the place of the last few, of which there is one at least. It takes no memory.
+fn replace_last(operands: &mut Vec<u32>, count: usize, value: u32)
+    requires some { 0 < count }
+    requires enough { count ≤ length operands.old.items }
+    ensures { operands.new.items ≡ take (length operands.old.items - count) operands.old.items ++ value ∷ [] }
+{
+    let from = operands.len() - count;
+    operands[from] = value;
+    operands.truncate(from + 1);
+}
+
 impl Thread {
     ghost use Rattle.wasm_decode.specs.ThinModule.{takes};
-    ghost use Rattle.interp.specs.Memory.{Memory};
-    ghost use Rattle.interp.specs.GuestThread.{thread_of, started, arguments};
+    ghost use Rattle.linear_memory.specs.LinearMemory.{LinearMemory};
+    ghost use Rattle.interp.specs.GuestThread.{thread_of, started, arguments, answered};
     ghost use Rattle.interp.specs.Step.{step, Next};
     ghost use Rattle.interp.specs.Stops.{StopsAs};
     ghost use Rattle.interp.specs.Fits.{Fits};
-    ghost use Rattle.interp.specs.Left.{steps_left};
+    ghost use Rattle.interp.specs.Left.{steps_left, calls_left};
 
     /// A thread that begins the program's function. Room for the operands of the whole body is taken here, so that
     /// no step takes any.
@@ -65,7 +76,7 @@ impl Thread {
     /// What the thread stands at.
     pub fn standing(&self, program: &Thin) -> Stop
         requires fits { Fits program.now (thread_of program.now self.now) }
-        ensures { (memory : Memory) → StopsAs (step program.now memory (thread_of program.now self.now)) result }
+        ensures { (memory : LinearMemory) → StopsAs (step program.now memory (thread_of program.now self.now)) result }
     {
         if self.returned {
             return Stop::Finished;
@@ -79,7 +90,7 @@ impl Thread {
     /// The arguments of the call that the thread stands at, in the order of the parameters.
     pub fn arguments(&self, program: &Thin, import: u32) -> &[u32]
         requires fits { Fits program.now (thread_of program.now self.now) }
-        requires stands { (memory : Memory) → StopsAs (step program.now memory (thread_of program.now self.now)) (Stop.Call import) }
+        requires stands { (memory : LinearMemory) → StopsAs (step program.now memory (thread_of program.now self.now)) (Stop.Call import) }
         ensures known { IsSome (slice_get program.now.imports import) }
         ensures value { IfSome (slice_get program.now.imports import) (λ f. result.now ≡ arguments (thread_of program.now self.now) (takes f)) }
         ensures count { IfSome (slice_get program.now.imports import) (λ f. length result.now ≡ takes f) }
@@ -92,13 +103,30 @@ impl Thread {
         &self.operands.as_slice()[from..]
     }
 
+    /// Answers the call of `fd_write` that the thread stands at: this value takes the place of its four arguments, and the
+    /// thread stands past the call.
+    pub fn answer(&mut self, program: &Thin, import: u32, value: u32)
+        requires fits { Fits program.now (thread_of program.now self.old) }
+        requires stands { (memory : LinearMemory) → StopsAs (step program.now memory (thread_of program.now self.old)) (Stop.Call import) }
+        requires gives { slice_get program.now.imports import ≡ Some ThinImport.FdWrite }
+        ensures answered { thread_of program.now self.new ≡ answered (thread_of program.now self.old) 4 (value ∷ []) }
+        ensures fits { Fits program.now (thread_of program.now self.new) }
+        ensures main { self.new.main ≡ self.old.main }
+        ensures left { steps_left (thread_of program.now self.new) + 1 ≡ steps_left (thread_of program.now self.old) }
+        ensures calls { calls_left (thread_of program.now self.new) + 1 ≡ calls_left (thread_of program.now self.old) }
+    {
+        let _body = program.body();
+        replace_last(&mut self.operands, ThinImport::FdWrite.takes(), value);
+        self.position += 1;
+    }
+
     /// Runs one step. `Some` is what the thread stands at where no step is next; then it is as before.
     pub fn step(&mut self, program: &Thin) -> Result<Option<Stop>, AllocError>
         requires fits { Fits program.now (thread_of program.now self.old) }
-        ensures stands { IfOk result (λ s. IfSome s (λ stop. (memory : Memory) → StopsAs (step program.now memory (thread_of program.now self.old)) stop)) }
+        ensures stands { IfOk result (λ s. IfSome s (λ stop. (memory : LinearMemory) → StopsAs (step program.now memory (thread_of program.now self.old)) stop)) }
         ensures not_spent { IfOk result (λ s. IfSome s (λ stop. stop ≢ Stop.Spent)) }
         ensures stays { IfOk result (λ s. IfSome s (λ _. self.new ≡ self.old)) }
-        ensures goes_on { IfOk result (λ s. IfNone s ((memory : Memory) → step program.now memory (thread_of program.now self.old) ≡ Next memory (thread_of program.now self.new))) }
+        ensures goes_on { IfOk result (λ s. IfNone s ((memory : LinearMemory) → step program.now memory (thread_of program.now self.old) ≡ Next memory (thread_of program.now self.new))) }
         ensures fits { OnOk result (Fits program.now (thread_of program.now self.new)) }
         ensures main { OnOk result (self.new.main ≡ self.old.main) }
     {

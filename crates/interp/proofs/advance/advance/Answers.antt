@@ -1,7 +1,7 @@
 use Rattle.std.proofs.Common.{add-one, arith, ◌∙◌}
 use Rattle.interp.specs.GuestThread.{thread_of}
-use Rattle.interp.specs.Memory.{no_memory}
-use Rattle.interp.proofs.After.{after_more, left_step}
+use Rattle.interp.proofs.AnyMemory.{any_memory}
+use Rattle.interp.proofs.After.{after_more, left_step, calls_step}
 use Rattle.interp.proofs.advance.advance.Goals as goal
 
 pub loop-ran-preserved : goal.loop-ran-preserved
@@ -12,5 +12,6 @@ loop-ran-preserved c =
       most = omega arith;
       fits = c.in_ok-stop.ensures.fits;
       main = c.in_ok-stop.ensures.main ∙ c.loop-ran.invariant.main;
-      left = omega (arith, c.loop-ran.invariant.left, left_step c.args.program.now no_memory (thread_of c.args.program.now c.loop-ran.thread) no_memory (thread_of c.args.program.now c.step.new.self) (goes_on no_memory));
+      calls = calls_step c.args.program.now any_memory (thread_of c.args.program.now c.loop-ran.thread) any_memory (thread_of c.args.program.now c.step.new.self) (goes_on any_memory) ∙ c.loop-ran.invariant.calls;
+      left = omega (arith, c.loop-ran.invariant.left, left_step c.args.program.now any_memory (thread_of c.args.program.now c.loop-ran.thread) any_memory (thread_of c.args.program.now c.step.new.self) (goes_on any_memory));
     }

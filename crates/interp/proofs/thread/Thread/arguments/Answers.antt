@@ -1,30 +1,30 @@
 use Rattle.std.proofs.Common.{◌≡◌, ◌≤◌, IsSome, Some, length, List, ℕ, refl, arith, subst, sym, ap, ◌∙◌}
 use Rattle.wasm_decode.specs.ThinModule.{takes}
-use Rattle.interp.specs.Memory.{no_memory}
+use Rattle.interp.proofs.AnyMemory.{any_memory}
 use Rattle.interp.proofs.Calls.{calling, last_operands, same_import, within_imports, tail_is, tail_long}
 use Rattle.interp.proofs.thread.Thread.arguments.Goals as goal
 
 pub unreachable-requires : goal.unreachable-requires
 unreachable-requires c =
-    let called = calling c.args.program.now c.args.self.now no_memory c.args.import c.requires.fits (c.requires.stands no_memory) in
+    let called = calling c.args.program.now c.args.self.now any_memory c.args.import c.requires.fits (c.requires.stands any_memory) in
     let inside = within_imports _ _ _ _ c.imports.ensures.imports called.0.known in
     omega (arith, c.in-None.ensures.lookup.3)
 
 pub overflow_sub-from : goal.overflow_sub-from
 overflow_sub-from c =
-    let called = calling c.args.program.now c.args.self.now no_memory c.args.import c.requires.fits (c.requires.stands no_memory) in
+    let called = calling c.args.program.now c.args.self.now any_memory c.args.import c.requires.fits (c.requires.stands any_memory) in
     let inside = within_imports _ _ _ _ c.imports.ensures.imports called.0.known in
     let same = same_import _ _ _ _ _ c.imports.ensures.imports inside c.in-Some.ensures.lookup.1 called.0.known in
     omega (arith, c.takes.ensures ∙ ap takes same, called.0.enough, c.len.ensures, ap (λ s. length s.operands) c.self.view_is)
 
 pub returns-clause-known : goal.returns-clause-known
 returns-clause-known c =
-    let called = calling c.args.program.now c.args.self.now no_memory c.args.import c.requires.fits (c.requires.stands no_memory) in
+    let called = calling c.args.program.now c.args.self.now any_memory c.args.import c.requires.fits (c.requires.stands any_memory) in
     subst IsSome (sym called.0.known) refl
 
 pub returns-clause-value : goal.returns-clause-value
 returns-clause-value c =
-    let called = calling c.args.program.now c.args.self.now no_memory c.args.import c.requires.fits (c.requires.stands no_memory) in
+    let called = calling c.args.program.now c.args.self.now any_memory c.args.import c.requires.fits (c.requires.stands any_memory) in
     let inside = within_imports _ _ _ _ c.imports.ensures.imports called.0.known in
     let same = same_import _ _ _ _ _ c.imports.ensures.imports inside c.in-Some.ensures.lookup.1 called.0.known in
     let kept = ap (λ s. s.operands) c.self.view_is in
@@ -33,7 +33,7 @@ returns-clause-value c =
 
 pub returns-clause-count : goal.returns-clause-count
 returns-clause-count c =
-    let called = calling c.args.program.now c.args.self.now no_memory c.args.import c.requires.fits (c.requires.stands no_memory) in
+    let called = calling c.args.program.now c.args.self.now any_memory c.args.import c.requires.fits (c.requires.stands any_memory) in
     let inside = within_imports _ _ _ _ c.imports.ensures.imports called.0.known in
     let same = same_import _ _ _ _ _ c.imports.ensures.imports inside c.in-Some.ensures.lookup.1 called.0.known in
     let kept = ap (λ s. s.operands) c.self.view_is in
