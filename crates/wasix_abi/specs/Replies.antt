@@ -1,0 +1,14 @@
+-- What the reply to a request writes to the caller's memory.
+use Rattle.std.specs.Prelude.{ℕ, ◌==◌, ◌&&◌, if◌then◌else◌, List, length, slice_index}
+use Rattle.std.specs.Int.{w32, to_le_bytes}
+use Rattle.linear_memory.specs.LinearMemory.{with_bytes}
+use Rattle.wx_types.specs.declared.requests.Request.{Request}
+use Rattle.wasix_abi.specs.Requests.{fd_write}
+
+-- the bytes of the memory after a reply: a write that succeeded puts how many bytes it wrote, lowest
+-- byte first, at its last argument, and every other reply leaves the memory
+abbrev pub apply_reply : List ℕ → Request → ℕ → List ℕ → List ℕ
+apply_reply memory request errno bytes =
+    if request.call == fd_write && errno == 0
+    then with_bytes memory (slice_index request.words 3) (to_le_bytes w32 (length bytes))
+    else memory
