@@ -8,7 +8,7 @@ use Rattle.wx_types.specs.declared.entries.Entry.{Entry}
 use Rattle.wx_types.specs.declared.entries.Outcome.{Outcome}
 use Rattle.wasm_decode.specs.ThinModule.{ThinModule}
 use Rattle.wasm_decode.specs.ThinGrammar.{SpellsThin}
-use Rattle.interp.specs.Memory.{Memory}
+use Rattle.linear_memory.specs.LinearMemory.{LinearMemory}
 use Rattle.interp.specs.GuestThread.{GuestThread}
 use Rattle.interp.specs.Step.{Stepped, step, after}
 use Rattle.runner.specs.Process.{Process}
@@ -49,7 +49,7 @@ asked_same process tid slice n request request' stopped stopped' a b =
     let states : ◌≡◌ {A = Option State} (Some (a.memory, a.next)) (Some (b.memory, b.next)) = sym a.steps ∙ ap (after n process.program process.memory) same ∙ b.steps in
     let state : ◌≡◌ {A = State} (a.memory, a.next) (b.memory, b.next) = cc in
     let requests : Some request ≡ Some request' =
-        sym a.asks ∙ ap (λ (x : State). request_at process.program x.1 (fuel_left process - n) (step process.program x.0 x.1)) state ∙ b.asks in
+        sym a.asks ∙ ap (λ (x : State). request_at process.program x.0 x.1 (fuel_left process - n) (step process.program x.0 x.1)) state ∙ b.asks in
     (cc, a.leaves ∙ ap (λ (x : State). record process { memory = x.0; threads = insert process.threads tid x.1; used = process.used + n }) state ∙ sym b.leaves)
 
 settles_same : (ended : Option End) (k a b : Kernel) → SettlesFrom ended k a → SettlesFrom ended k b → a ≡ b

@@ -3,4 +3,4 @@ pub mod Determined
 pub mod Maps
 pub mod Clauses
 pub mod Turns
-pub mod Whole
+pub mod Console

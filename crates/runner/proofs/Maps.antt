@@ -6,6 +6,7 @@ use Rattle.std.specs.Ordering.{nat_cmp, eq_by_cmp, is_eq}
 use Rattle.std.specs.Cmp.{IsTotalOrder}
 use Rattle.std.proofs.lemmas.Cmp.{eq_by_cmp_equiv, nat_cmp_total, on_total, then_total}
 use Rattle.std.specs.FinMap.{FinMap, empty, get, insert, remove, get-insert, get-remove, get-empty, IsAntisymmetric, nat_cmp-IsAntisymmetric}
+use Rattle.std.proofs.lemmas.Map.Lookups.{exact_pairs, exact_unsigned}
 use Rattle.runner.specs.Process.{Process}
 use Rattle.runner.specs.Apply.{placed}
 use Rattle.runner.specs.Kernel.{ThreadId, thread_cmp}
@@ -39,3 +40,7 @@ get-placed_other m pid (Some process) q ne = get-insert_other nat_cmp_total nat_
 
 pub thread_cmp_total : IsTotalOrder thread_cmp
 thread_cmp_total = then_total (on_total (λ (t : ThreadId). t.0) nat_cmp_total) (on_total (λ (t : ThreadId). t.1) nat_cmp_total)
+
+-- threads that compare alike are one
+pub thread_cmp_exact : IsAntisymmetric thread_cmp
+thread_cmp_exact a b e = exact_pairs nat_cmp nat_cmp exact_unsigned exact_unsigned (a.0, a.1) (b.0, b.1) e

@@ -3,11 +3,11 @@ use Rattle.std.specs.Prelude.{ℕ, List}
 use Rattle.std.specs.Ordering.{nat_cmp}
 use Rattle.std.specs.FinMap.{FinMap}
 use Rattle.wasm_decode.specs.ThinModule.{ThinModule}
-use Rattle.interp.specs.Memory.{Memory}
+use Rattle.linear_memory.specs.LinearMemory.{LinearMemory}
 use Rattle.interp.specs.GuestThread.{GuestThread}
 
 pub record Process : Type 0 where
-  pub memory : Memory
+  pub memory : LinearMemory
   pub threads : FinMap nat_cmp GuestThread
   pub program : ThinModule
   pub arguments : List (List ℕ)

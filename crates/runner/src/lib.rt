@@ -1,5 +1,6 @@
 //! Runs processes, and keeps the history of the calls that end their slices.
 #![tactic(auto)]
 
+pub mod instance;
 pub mod journal;
 pub mod one;

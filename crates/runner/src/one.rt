@@ -1,24 +1,39 @@
 // The run of one process with one thread.
-ghost use Rattle.std.specs.Prelude.{◌≡◌, ◌+◌, ◌≤◌, ◌↔◌, ℕ, IfOk, true};
+ghost use Rattle.std.specs.Prelude.{◌≡◌, ◌+◌, ◌*◌, ◌≤◌, ◌<◌, ◌^◌, ◌↔◌, ℕ, IfOk, IfSome, IfNone, Some, None, true, length, []};
 ghost use Rattle.wx_types.specs.Entry.{entry_weight};
-ghost use Rattle.interp.specs.GuestThread.{thread_of};
+ghost use Rattle.linear_memory.specs.LinearMemory.{LinearMemory};
+ghost use Rattle.interp.specs.GuestThread.{thread_of, arguments};
+ghost use Rattle.interp.specs.Step.{step};
+ghost use Rattle.interp.specs.Stops.{StopsAs};
 ghost use Rattle.interp.specs.Fits.{Fits};
-ghost use Rattle.interp.specs.Left.{steps_left};
-ghost use Rattle.runner.specs.Boot.{Boot, boot_world};
+ghost use Rattle.interp.specs.Left.{steps_left, calls_left};
+ghost use Rattle.runner.specs.Boot.{Boot, boot_world, first_memory};
 ghost use Rattle.runner.specs.Kernel.{End, Exited};
 ghost use Rattle.runner.specs.World.{World};
 ghost use Rattle.runner.specs.Run.{Run, EachReply, InOrder, EndsAs};
-ghost use Rattle.runner.specs.OneProcess.{StandsAt, LeadsToEnd, Begins, default_slice, end_entry};
+ghost use Rattle.runner.specs.OneProcess.{StandsAt, LeadsToEnd, LeadsOn, Begins, default_slice, end_entry, write_reply, write_entry};
 
+use crate::instance::instantiate;
 use crate::journal::Journal;
 use interp::advance::advance;
 use interp::thread::{Stop, Thread};
+use linear_memory::Memory;
 use std::alloc::{AllocError, Global};
-use wasm_decode::{Thin, one_thin_module};
-use wx_types::{Entry, Outcome};
+use wasix_abi::{apply, request_laws, request_of};
+use wasm_decode::{Thin, ThinImport, one_thin_module};
+use wx_types::{Bytes, Entry, Errno, Outcome, Place, Request};
 
 /// The steps of one slice, where the command line names no other number.
 pub const DEFAULT_SLICE: u64 = 10_000;
+
+/// The number of the return of a thread's last frame.
+const LAST_RETURN: u16 = 4;
+
+/// The number of `fd_write`.
+const FD_WRITE: u16 = 17;
+
+/// The number of `proc_exit`.
+const PROC_EXIT: u16 = 37;
 
 /// How a run ended.
 #[derive(Clone, Copy, Debug, PartialEq, Eq)]
@@ -36,19 +51,19 @@ pub struct Finished {
     pub journal: Journal,
 }
 
-/// A turn that ended the run, and the code with which it did.
+/// A turn: its entry, and the exit code where it ended the run.
 #[derive(Drop)]
-struct LastTurn {
+struct Turn {
     entry: Entry,
-    code: u32,
+    ended: Option<u32>,
 }
 
 // the turn that ends process 1 by this call
-fn last_turn(ran: u64, call: u16, code: u32) -> LastTurn
+fn last_turn(ran: u64, call: u16, code: u32) -> Turn
     ensures entry { result.entry ≡ end_entry ran call }
-    ensures code { result.code ≡ code }
+    ensures ended { result.ended ≡ Some code }
 {
-    LastTurn {
+    Turn {
         entry: Entry {
             pid: 1,
             tid: 1,
@@ -57,59 +72,53 @@ fn last_turn(ran: u64, call: u16, code: u32) -> LastTurn
             outcome: Outcome::Ended { process: true },
             signal: 0,
         },
-        code,
+        ended: Some(code),
     }
 }
 
-// One slice of the thread, and the call that ends it.
-fn turn(program: &Thin, thread: &mut Thread) -> Result<LastTurn, AllocError>
-    requires fits { Fits program.now (thread_of program.now thread.old) }
-    requires short { steps_left (thread_of program.now thread.old) ≤ 1001 }
-    requires main { thread.old.main ≡ true }
-    ensures leads { IfOk result (λ t. (world : World) → StandsAt world program.now (thread_of program.now thread.old) → LeadsToEnd world t.entry t.code) }
-    ensures weight { IfOk result (λ t. entry_weight t.entry ≡ 64) }
+/// What a write came to.
+#[derive(Drop)]
+struct Reply {
+    errno: u16,
+    bytes: Bytes,
+    place: Place,
+}
+
+// a refusal has no bytes
+fn refused(alloc: Global, errno: u16) -> Reply
+    ensures errno { result.errno ≡ errno }
+    ensures bytes { result.bytes ≡ [] }
+    ensures place { result.place ≡ Place.Nowhere }
 {
-    let stopped = advance(program, thread, DEFAULT_SLICE)?;
-    match stopped.stop {
-        Stop::Spent => unreachable!(),
-        Stop::Call { import } => {
-            let code = thread.arguments(program, import)[0];
-            Ok(last_turn(stopped.ran, 37, code))
-        }
-        Stop::Finished => Ok(last_turn(stopped.ran, 4, 0)),
+    Reply {
+        errno,
+        bytes: Bytes::empty(alloc),
+        place: Place::Nowhere,
     }
 }
 
-// The whole run: its one turn.
-fn first_turn(alloc: Global, program: &Thin) -> Result<LastTurn, AllocError>
-    ensures leads { IfOk result (λ t. (boot : Boot) → Begins boot program.now → LeadsToEnd (boot_world boot program.now) t.entry t.code) }
-    ensures weight { IfOk result (λ t. entry_weight t.entry ≡ 64) }
+// The answer to a write over the descriptors of process 1: the refusal that the process found, then by the descriptor.
+fn answer_write(alloc: Global, errno: u16, fd: u64, bytes: Bytes) -> Reply
+    ensures errno { result.errno ≡ (write_reply errno fd bytes).errno }
+    ensures bytes { result.bytes ≡ (write_reply errno fd bytes).bytes }
+    ensures place { result.place ≡ (write_reply errno fd bytes).place }
 {
-    let mut thread = Thread::start(alloc, program, true)?;
-    let last = turn(program, &mut thread)?;
-    Ok(last)
-}
-
-/// Runs process 1 with one thread on the program to the end of the run. It waits for nobody.
-///
-/// `Why::Memory` is free, and the journal is then the history before.
-pub fn run_one(alloc: Global, program: &Thin) -> Finished
-    // The journal is a run of the model.
-    ensures run { (boot : Boot) → Begins boot program.now → Run boot result.journal }
-    // Each entry's call, outcome and signal are the model's there.
-    ensures replies { (boot : Boot) → Begins boot program.now → EachReply boot result.journal }
-    // Each thread's stops are in the journal in their order, none left out and none twice.
-    ensures order { (boot : Boot) → Begins boot program.now → InOrder boot result.journal }
-    // It exited exactly where the run ended so.
-    ensures exited { (boot : Boot) (code : ℕ) → Begins boot program.now → (result.why ≡ Why.Exited code) ↔ EndsAs boot result.journal (Exited code) }
-{
-    one_thin_module();
-    let mut journal = Journal::new(alloc);
-    match first_turn(alloc, program) {
-        Ok(LastTurn { entry, code }) => match journal.push(entry) {
-            Ok(()) => Finished { why: Why::Exited(code), journal },
-            Err(_) => Finished { why: Why::Memory, journal },
+    if errno != 0 {
+        return refused(alloc, errno);
+    }
+    match fd {
+        1 => Reply {
+            errno: 0,
+            bytes,
+            place: Place::Output,
         },
-        Err(_) => Finished { why: Why::Memory, journal },
+        2 => Reply {
+            errno: 0,
+            bytes,
+            place: Place::Error,
+        },
+        0 => refused(alloc, Errno::Notcapable.number()),
+        3 => refused(alloc, Errno::Isdir.number()),
+        _ => refused(alloc, Errno::Badf.number()),
     }
 }
