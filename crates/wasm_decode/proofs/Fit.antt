@@ -1,19 +1,20 @@
 -- The parts as the code keeps them fit together exactly where the parts that the bytes spell do.
 use Rattle.std.proofs.Common.{◌≡◌, ℕ, ◌≤◌, ◌<◌, List, [], ◌∷◌, length, get_or, Some, None, Err, sym, ap, subst, ◌∙◌, arith}
-use Rattle.std.specs.Prelude.{All, Any, AllPairs, codes}
+use Rattle.std.specs.Prelude.{All, Any, AllPairs, codes, slice_get}
 use Rattle.std.proofs.lemmas.List.{get_or-map, length-map, get_or_default}
 use Rattle.std.proofs.lemmas.List.Elements.{All-map}
 use Rattle.wasm_decode.specs.declared.items.Export.{Export as KeptExport}
+use Rattle.wasm_decode.specs.declared.items.ExportKind.TheVariants.{Function}
 use Rattle.wasm_decode.specs.declared.parts.Parts.{Parts as KeptParts}
 use Rattle.wasm_decode.specs.declared.fault.ThinFault.{ThinFault}
 use Rattle.wasm_decode.specs.declared.fault.ThinFault.TheVariants.{Malformed, NotYet, Memory}
 use Rattle.wasm_decode.specs.ThinModule.{ThinModule}
-use Rattle.wasm_decode.specs.ThinGrammar.{Export, Parts, IsThin, SpellsParts, SpellsSections, module_of}
+use Rattle.wasm_decode.specs.ThinGrammar.{Export, Parts, IsInRange, IsThin, SpellsParts, SpellsSections, module_of}
 use Rattle.wasm_decode.specs.Reading.{Fails, all_at, parts_at}
 use Rattle.wasm_decode.specs.Answer.{Answers}
 use Rattle.wasm_decode.specs.Views.{export_view, export_views, parts_view, PartsFit}
-use Rattle.wasm_decode.proofs.Readers.{some, some_is, all_takes, all_again}
-use Rattle.wasm_decode.proofs.Whole.{parts_reader}
+use Rattle.wasm_decode.proofs.Readers.{some, some_is}
+use Rattle.wasm_decode.proofs.Whole.{whole_takes, whole_again}
 use Rattle.wasm_decode.proofs.Distinct.{Differ}
 
 abbrev Apart : Export → Export → Type 0
@@ -53,10 +54,12 @@ thin_from_fit p short fit differ = record {
   results = fit.results;
   imports = fit.imports;
   function = fit.function;
-  in_range = All-map (λ e. e.index ≤ length p.imports.items) export_view p.exports.items fit.in_range;
+  one_memory = fit.one_memory;
+  memories = fit.memories;
+  in_range = All-map (λ e. IsInRange (length p.imports.items) (length p.memories.items) e.kind e.index) export_view p.exports.items fit.in_range;
   differ = pairs_mapped p.exports.items differ;
-  start = any_mapped (λ e. (e.name ≡ codes "_start") × (e.index ≡ length p.imports.items)) p.exports.items fit.start;
-  valid = record { balanced = fit.balanced; few = short; few_calls = fit.few_calls };
+  start = any_mapped (λ e. (e.name ≡ codes "_start") × (e.kind ≡ Function) × (e.index ≡ length p.imports.items)) p.exports.items fit.start;
+  valid = record { balanced = fit.balanced; few = short; few_calls = fit.few_calls; within = fit.within };
 }
 
 pub fit_from_thin : (p : KeptParts) → IsThin (parts_view p) → PartsFit p × AllPairs Differ p.exports.items
@@ -65,10 +68,13 @@ fit_from_thin p thin = (
     results = thin.results;
     imports = thin.imports;
     function = thin.function;
-    in_range = all_unmapped (λ e. e.index ≤ length p.imports.items) p.exports.items thin.in_range;
-    start = any_unmapped (λ e. (e.name ≡ codes "_start") × (e.index ≡ length p.imports.items)) p.exports.items thin.start;
+    one_memory = thin.one_memory;
+    memories = thin.memories;
+    in_range = all_unmapped (λ e. IsInRange (length p.imports.items) (length p.memories.items) e.kind e.index) p.exports.items thin.in_range;
+    start = any_unmapped (λ e. (e.name ≡ codes "_start") × (e.kind ≡ Function) × (e.index ≡ length p.imports.items)) p.exports.items thin.start;
     balanced = thin.valid.balanced;
     few_calls = thin.valid.few_calls;
+    within = thin.valid.within;
   },
   pairs_unmapped p.exports.items thin.differ,
 )
@@ -77,22 +83,22 @@ fit_from_thin p thin = (
 
 pub short_of : (bytes : List ℕ) (p : Parts) → all_at parts_at bytes ≡ Some p → length p.body ≤ 1000
 short_of bytes p e =
-    let s = all_takes parts_at SpellsParts parts_reader bytes p e in
+    let s = whole_takes bytes p e in
     s.code_section.2.4.4.4.5.2
 
 pub spelled_by : (bytes : List ℕ) (p : Parts) (m : ThinModule) → all_at parts_at bytes ≡ Some p → IsThin p → m ≡ module_of p → SpellsSections bytes m
-spelled_by bytes p m e thin is = (p, all_takes parts_at SpellsParts parts_reader bytes p e, thin, is)
+spelled_by bytes p m e thin is = (p, whole_takes bytes p e, thin, is)
 
 pub none_by : (bytes : List ℕ) (p : Parts) → all_at parts_at bytes ≡ Some p → (IsThin p → ⊥) → (m : ThinModule) → SpellsSections bytes m → ⊥
 none_by bytes p e no_thin m s =
-    no_thin (subst IsThin (some_is s.0 p (sym (all_again parts_at SpellsParts parts_reader bytes s.0 s.1) ∙ e)) s.2)
+    no_thin (subst IsThin (some_is s.0 p (sym (whole_again bytes s.0 s.1) ∙ e)) s.2)
 
 pub fails_by : (bytes : List ℕ) (e : ThinFault) → Fails e (all_at parts_at bytes) → Answers (Err e) (SpellsSections bytes)
 fails_by bytes Malformed f = f
 fails_by bytes Memory f = tt
-fails_by bytes NotYet f = λ m s. absurd (let e : some s.0 ≡ None = sym (all_again parts_at SpellsParts parts_reader bytes s.0 s.1) ∙ f in cc)
+fails_by bytes NotYet f = λ m s. absurd (let e : some s.0 ≡ None = sym (whole_again bytes s.0 s.1) ∙ f in cc)
 
 pub one_by : (bytes : List ℕ) (m n : ThinModule) → SpellsSections bytes m → SpellsSections bytes n → m ≡ n
 one_by bytes m n s t =
-    let same = some_is s.0 t.0 (sym (all_again parts_at SpellsParts parts_reader bytes s.0 s.1) ∙ all_again parts_at SpellsParts parts_reader bytes t.0 t.1) in
+    let same = some_is s.0 t.0 (sym (whole_again bytes s.0 s.1) ∙ whole_again bytes t.0 t.1) in
     s.3 ∙ (ap module_of same ∙ sym t.3)

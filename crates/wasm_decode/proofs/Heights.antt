@@ -3,7 +3,7 @@ use Rattle.std.proofs.Common.{◌≡◌, ℕ, ◌+◌, ◌-◌, ◌≤◌, ◌<�
 use Rattle.std.specs.Prelude.{slice_get}
 use Rattle.std.proofs.Math.Seq.{drop-cons}
 use Rattle.wasm_decode.specs.declared.thin.ThinImport.{ThinImport}
-use Rattle.wasm_decode.specs.declared.thin.ThinImport.TheVariants.{ProcExit}
+use Rattle.wasm_decode.specs.declared.thin.ThinImport.TheVariants.{ProcExit, FdWrite}
 use Rattle.wasm_decode.specs.declared.thin.ThinInstr.{ThinInstr}
 use Rattle.wasm_decode.specs.declared.thin.ThinInstr.TheVariants.{Const, Call, Drop}
 use Rattle.wasm_decode.specs.ThinModule.{height_after_call, height_after, heights}
@@ -12,6 +12,7 @@ use Rattle.wasm_decode.proofs.Readers.{some, some_is, guard_some}
 -- no instruction adds more than one operand
 call_le : (o : Option ThinImport) (h n : ℕ) → height_after_call o h ≡ Some n → n ≤ h + 1
 call_le None h n e = absurd cc
+call_le (Some FdWrite) h n e = let g = guard_some (leb 4 h) (some (h - 4 + 1)) n e in let k : h - 4 + 1 ≡ n = some_is (h - 4 + 1) n g.1 in omega arith
 call_le (Some ProcExit) h n e = let g = guard_some (leb 1 h) (some (h - 1 + 0)) n e in let k : h - 1 + 0 ≡ n = some_is (h - 1 + 0) n g.1 in omega arith
 
 pub height_le : (imports : List ThinImport) (i : ThinInstr) (h n : ℕ) → height_after imports i h ≡ Some n → n ≤ h + 1

@@ -12,12 +12,16 @@ use Rattle.byte_cursor.proofs.Laws.{chosen}
 use Rattle.wasm_decode.specs.declared.items.FuncType.{FuncType}
 use Rattle.wasm_decode.specs.declared.items.Import.{Import}
 use Rattle.wasm_decode.specs.declared.thin.ThinImport.{ThinImport}
-use Rattle.wasm_decode.specs.declared.thin.ThinImport.TheVariants.{ProcExit}
+use Rattle.wasm_decode.specs.declared.thin.ThinImport.TheVariants.{ProcExit, FdWrite}
 use Rattle.wasm_decode.specs.declared.thin.ThinInstr.{ThinInstr}
+use Rattle.wasm_decode.specs.declared.thin.ThinMemory.{ThinMemory}
+use Rattle.wasm_decode.specs.declared.items.ExportKind.{ExportKind}
+use Rattle.wasm_decode.specs.declared.items.ExportKind.TheVariants.{Function, Memory}
+use Rattle.wasm_decode.specs.Segment.{Segment}
 use Rattle.wasm_decode.specs.declared.thin.ThinInstr.TheVariants.{Const, Call, Drop}
 use Rattle.wasm_decode.specs.Grammar.{SpellsEach, SpellsBytes}
-use Rattle.wasm_decode.specs.ThinGrammar.{Export, SpellsI32s, SpellsFuncType, import_name, SpellsImport, SpellsExport, SpellsInstr, SpellsNoLocals, SpellsCode}
-use Rattle.wasm_decode.specs.Reading.{◌>>=◌, byte_at, u32_at, i32_at, after_byte, bytes_at, vector_at, i32s_at, func_type_at, import_of, import_at, export_at, instr_of, expr_at, no_locals_at, rest_of, code_at}
+use Rattle.wasm_decode.specs.ThinGrammar.{Export, SpellsI32s, SpellsFuncType, import_name, SpellsImport, kind_byte, SpellsExport, SpellsLimits, SpellsMemory, SpellsSegment, SpellsInstr, SpellsNoLocals, SpellsCode}
+use Rattle.wasm_decode.specs.Reading.{◌>>=◌, byte_at, u32_at, i32_at, after_byte, bytes_at, vector_at, i32s_at, func_type_at, import_of, import_at, kind_of, export_at, memory_at, segment_at, instr_of, expr_at, no_locals_at, rest_of, code_at}
 use Rattle.wasm_decode.proofs.Readers.{some, some_is, bind_some, guard_some, IsReader, u32_reader, i32_reader, bytes_reader, byte_takes, byte_again, after_takes, after_again, vector_reader}
 
 and_true : (a b : Bool) → (a && b) ≡ true → (a ≡ true) × (b ≡ true)
@@ -74,11 +78,19 @@ import_at_type what index = record { what = what; of = index }
 
 import_of_is : (name : List ℕ) (what : ThinImport) → import_of name ≡ Some what → name ≡ import_name what
 unfolding import_of
-import_of_is name ProcExit e = (bytes_eq-Decides name (import_name ProcExit)).0 (guard_some (bytes_eq name (import_name ProcExit)) (some ProcExit) ProcExit e).0
+import_of_is name what e =
+    let other : Option ThinImport = cond (bytes_eq name (import_name FdWrite)) (some FdWrite) None in
+    elim (chosen (bytes_eq name (import_name ProcExit)) (some ProcExit) other (some what) e) [
+      | inl first ↦ (bytes_eq-Decides name (import_name ProcExit)).0 first.0 ∙ ap import_name (some_is ProcExit what first.1)
+      | inr second ↦
+          let g = guard_some (bytes_eq name (import_name FdWrite)) (some FdWrite) what second.1 in
+          (bytes_eq-Decides name (import_name FdWrite)).0 g.0 ∙ ap import_name (some_is FdWrite what g.1)
+    ]
 
 import_of_again : (what : ThinImport) → import_of (import_name what) ≡ Some what
 unfolding import_of
 import_of_again ProcExit = refl
+import_of_again FdWrite = refl
 
 pub import_reader : IsReader import_at SpellsImport
 unfolding import_at
@@ -107,27 +119,118 @@ import_reader = record {
 
 -- ---- exports
 
-abbrev export_of : List ℕ → ℕ → Export
-export_of name index = record { name = name; index = index }
+abbrev export_of : List ℕ → ExportKind → ℕ → Export
+export_of name kind index = record { name = name; kind = kind; index = index }
+
+abbrev kind_some : ExportKind → Option ExportKind
+kind_some k = Some k
+
+kind_is : (b : ℕ) (kind : ExportKind) → kind_of b ≡ Some kind → b ≡ kind_byte kind
+unfolding kind_of
+kind_is b kind e =
+    elim (chosen (eqb b 0) (kind_some Function) (cond (eqb b 2) (kind_some Memory) None) (kind_some kind) e) [
+      | inl is_function ↦ eqb-true b 0 is_function.0 ∙ ap kind_byte (some_is Function kind is_function.1)
+      | inr other ↦
+          let g = guard_some (eqb b 2) (kind_some Memory) kind other.1 in
+          eqb-true b 2 g.0 ∙ ap kind_byte (some_is Memory kind g.1)
+    ]
+
+kind_again : (kind : ExportKind) → kind_of (kind_byte kind) ≡ Some kind
+unfolding kind_of
+kind_again Function = refl
+kind_again Memory = refl
 
 pub export_reader : IsReader export_at SpellsExport
 unfolding export_at
 export_reader = record {
   takes = λ bytes x rest e.
-      let a = bind_some (bytes_at bytes) (λ name. (cond (is_utf8 name.0) (after_byte 0 name.1) None) >>= λ r. u32_at r >>= λ index. some (export_of name.0 index.0, index.1)) (x, rest) e in
-      let k = bind_some (cond (is_utf8 a.0.0) (after_byte 0 a.0.1) None) (λ r. u32_at r >>= λ index. some (export_of a.0.0 index.0, index.1)) (x, rest) a.2 in
-      let g = guard_some (is_utf8 a.0.0) (after_byte 0 a.0.1) k.0 k.1 in
-      let n = bind_some (u32_at k.0) (λ index. some (export_of a.0.0 index.0, index.1)) (x, rest) k.2 in
+      let a = bind_some (bytes_at bytes) (λ name. (cond (is_utf8 name.0) (byte_at name.1) None) >>= λ b. kind_of b.0 >>= λ kind. u32_at b.1 >>= λ index. some (export_of name.0 kind index.0, index.1)) (x, rest) e in
+      let b = bind_some (cond (is_utf8 a.0.0) (byte_at a.0.1) None) (λ b. kind_of b.0 >>= λ kind. u32_at b.1 >>= λ index. some (export_of a.0.0 kind index.0, index.1)) (x, rest) a.2 in
+      let g = guard_some (is_utf8 a.0.0) (byte_at a.0.1) b.0 b.1 in
+      let k = bind_some (kind_of b.0.0) (λ kind. u32_at b.0.1 >>= λ index. some (export_of a.0.0 kind index.0, index.1)) (x, rest) b.2 in
+      let n = bind_some (u32_at b.0.1) (λ index. some (export_of a.0.0 k.0 index.0, index.1)) (x, rest) k.2 in
       let name = bytes_reader.takes bytes a.0.0 a.0.1 a.1 in
-      let index = u32_reader.takes k.0 n.0.0 n.0.1 n.1 in
-      let made : Export × List ℕ = (export_of a.0.0 n.0.0, n.0.1) in
-      let behind : a.0.1 ≡ (0 ∷ index.0) ++ n.0.1 = after_takes 0 a.0.1 k.0 g.1 ∙ ap (λ (y : List ℕ). 0 ∷ y) index.2 in
-      let whole : bytes ≡ (name.0 ++ 0 ∷ index.0) ++ n.0.1 = name.2 ∙ (ap (λ (y : List ℕ). name.0 ++ y) behind ∙ sym (append_assoc name.0 (0 ∷ index.0) n.0.1)) in
+      let index = u32_reader.takes b.0.1 n.0.0 n.0.1 n.1 in
+      let made : Export × List ℕ = (export_of a.0.0 k.0 n.0.0, n.0.1) in
+      let behind : a.0.1 ≡ (kind_byte k.0 ∷ index.0) ++ n.0.1 = byte_takes a.0.1 b.0.0 b.0.1 g.1 ∙ (ap (λ (z : ℕ). z ∷ b.0.1) (kind_is b.0.0 k.0 k.1) ∙ ap (λ (y : List ℕ). kind_byte k.0 ∷ y) index.2) in
+      let whole : bytes ≡ (name.0 ++ kind_byte k.0 ∷ index.0) ++ n.0.1 = name.2 ∙ (ap (λ (y : List ℕ). name.0 ++ y) behind ∙ sym (append_assoc name.0 (kind_byte k.0 ∷ index.0) n.0.1)) in
       subst (λ (v : Export × List ℕ). BeginsWith SpellsExport bytes v.0 v.1) (some_is made (x, rest) n.2)
-      (name.0 ++ 0 ∷ index.0, (name.0, index.0, refl, (name.1, IsUtf8-from_is_utf8 a.0.0 g.0), index.1), whole);
+      (name.0 ++ kind_byte k.0 ∷ index.0, (name.0, index.0, refl, (name.1, IsUtf8-from_is_utf8 a.0.0 g.0), index.1), whole);
   again = λ front x rest s.
-      let regrouped : front ++ rest ≡ s.0 ++ (0 ∷ (s.1 ++ rest)) = ap (λ (y : List ℕ). y ++ rest) s.2 ∙ append_assoc s.0 (0 ∷ s.1) rest in
-      ap export_at regrouped ∙ rw (bytes_reader.again s.0 x.name (0 ∷ (s.1 ++ rest)) s.3.0, is_utf8-from_IsUtf8 x.name s.3.1, after_again 0 (s.1 ++ rest), u32_reader.again s.1 x.index rest s.4) refl;
+      let regrouped : front ++ rest ≡ s.0 ++ (kind_byte x.kind ∷ (s.1 ++ rest)) = ap (λ (y : List ℕ). y ++ rest) s.2 ∙ append_assoc s.0 (kind_byte x.kind ∷ s.1) rest in
+      ap export_at regrouped ∙ rw (bytes_reader.again s.0 x.name (kind_byte x.kind ∷ (s.1 ++ rest)) s.3.0, is_utf8-from_IsUtf8 x.name s.3.1, byte_again (kind_byte x.kind) (s.1 ++ rest), kind_again x.kind, u32_reader.again s.1 x.index rest s.4) refl;
+}
+
+-- ---- memories and segments
+
+abbrev memory_with : ℕ → Option ℕ → ThinMemory
+memory_with least most = record { min = least; max = most }
+
+memory_again : (front : List ℕ) (least : ℕ) (most : Option ℕ) (rest : List ℕ) → SpellsLimits front least most → memory_at (front ++ rest) ≡ Some (memory_with least most, rest)
+unfolding memory_at
+memory_again front least None rest s =
+    ap (λ (y : List ℕ). memory_at (y ++ rest)) s.1 ∙ rw (byte_again 0 (s.0 ++ rest), u32_reader.again s.0 least rest s.2) refl
+memory_again front least (Some most) rest s =
+    let regrouped : front ++ rest ≡ 1 ∷ (s.0 ++ (s.1 ++ rest)) = ap (λ (y : List ℕ). y ++ rest) s.2 ∙ ap (λ (y : List ℕ). 1 ∷ y) (append_assoc s.0 s.1 rest) in
+    ap memory_at regrouped ∙ rw (byte_again 1 (s.0 ++ (s.1 ++ rest)), u32_reader.again s.0 least (s.1 ++ rest) s.3, u32_reader.again s.1 most rest s.4) refl
+
+pub memory_reader : IsReader memory_at SpellsMemory
+unfolding memory_at
+memory_reader = record {
+  takes = λ bytes x rest e.
+      let f = bind_some (byte_at bytes) (λ flag. u32_at flag.1 >>= λ least. cond (eqb flag.0 0) (some (memory_with least.0 None, least.1)) (cond (eqb flag.0 1) (u32_at least.1 >>= λ most. some (memory_with least.0 (Some most.0), most.1)) None)) (x, rest) e in
+      let n = bind_some (u32_at f.0.1) (λ least. cond (eqb f.0.0 0) (some (memory_with least.0 None, least.1)) (cond (eqb f.0.0 1) (u32_at least.1 >>= λ most. some (memory_with least.0 (Some most.0), most.1)) None)) (x, rest) f.2 in
+      let flag = byte_takes bytes f.0.0 f.0.1 f.1 in
+      let least = u32_reader.takes f.0.1 n.0.0 n.0.1 n.1 in
+      let more : Option (ThinMemory × List ℕ) = u32_at n.0.1 >>= λ most. some (memory_with n.0.0 (Some most.0), most.1) in
+      elim (chosen (eqb f.0.0 0) (some (memory_with n.0.0 None, n.0.1)) (cond (eqb f.0.0 1) more None) (some (x, rest)) n.2) [
+        | inl unbounded ↦
+            let made : ThinMemory × List ℕ = (memory_with n.0.0 None, n.0.1) in
+            subst (λ (v : ThinMemory × List ℕ). BeginsWith SpellsMemory bytes v.0 v.1) (some_is made (x, rest) unbounded.1)
+            (0 ∷ least.0, (least.0, refl, least.1), flag ∙ (ap (λ (z : ℕ). z ∷ f.0.1) (eqb-true _ _ unbounded.0) ∙ ap (λ (y : List ℕ). 0 ∷ y) least.2))
+        | inr other ↦
+            let g = guard_some (eqb f.0.0 1) more (x, rest) other.1 in
+            let m = bind_some (u32_at n.0.1) (λ most. some (memory_with n.0.0 (Some most.0), most.1)) (x, rest) g.1 in
+            let most = u32_reader.takes n.0.1 m.0.0 m.0.1 m.1 in
+            let made : ThinMemory × List ℕ = (memory_with n.0.0 (Some m.0.0), m.0.1) in
+            subst (λ (v : ThinMemory × List ℕ). BeginsWith SpellsMemory bytes v.0 v.1) (some_is made (x, rest) m.2) (
+              1 ∷ least.0 ++ most.0,
+              (least.0, most.0, refl, least.1, most.1),
+              flag ∙ (ap (λ (z : ℕ). z ∷ f.0.1) (eqb-true _ _ g.0) ∙ ap (λ (y : List ℕ). 1 ∷ y) (least.2 ∙ (ap (λ (y : List ℕ). least.0 ++ y) most.2 ∙ sym (append_assoc least.0 most.0 m.0.1)))),
+            )
+      ];
+  again = λ front x rest s. memory_again front x.min x.max rest s;
+}
+
+-- ---- segments
+
+abbrev made_segment : ℕ → List ℕ → Segment
+made_segment offset bytes = record { offset = offset; bytes = bytes }
+
+pub segment_reader : IsReader segment_at SpellsSegment
+unfolding segment_at
+segment_reader = record {
+  takes = λ bytes x rest e.
+      let m = bind_some (u32_at bytes) (λ memory. (cond (eqb memory.0 0) (after_byte 65 memory.1) None) >>= λ r. i32_at r >>= λ offset. after_byte 11 offset.1 >>= λ behind. bytes_at behind >>= λ content. some (made_segment (cast_unsigned w32 offset.0) content.0, content.1)) (x, rest) e in
+      let a = bind_some (cond (eqb m.0.0 0) (after_byte 65 m.0.1) None) (λ r. i32_at r >>= λ offset. after_byte 11 offset.1 >>= λ behind. bytes_at behind >>= λ content. some (made_segment (cast_unsigned w32 offset.0) content.0, content.1)) (x, rest) m.2 in
+      let g = guard_some (eqb m.0.0 0) (after_byte 65 m.0.1) a.0 a.1 in
+      let o = bind_some (i32_at a.0) (λ offset. after_byte 11 offset.1 >>= λ behind. bytes_at behind >>= λ content. some (made_segment (cast_unsigned w32 offset.0) content.0, content.1)) (x, rest) a.2 in
+      let b = bind_some (after_byte 11 o.0.1) (λ behind. bytes_at behind >>= λ content. some (made_segment (cast_unsigned w32 o.0.0) content.0, content.1)) (x, rest) o.2 in
+      let c = bind_some (bytes_at b.0) (λ content. some (made_segment (cast_unsigned w32 o.0.0) content.0, content.1)) (x, rest) b.2 in
+      let memory = u32_reader.takes bytes m.0.0 m.0.1 m.1 in
+      let offset = i32_reader.takes a.0 o.0.0 o.0.1 o.1 in
+      let content = bytes_reader.takes b.0 c.0.0 c.0.1 c.1 in
+      let made : Segment × List ℕ = (made_segment (cast_unsigned w32 o.0.0) c.0.0, c.0.1) in
+      let e1 : o.0.1 ≡ (11 ∷ content.0) ++ c.0.1 = after_takes 11 o.0.1 b.0 b.1 ∙ ap (λ (y : List ℕ). 11 ∷ y) content.2 in
+      let e2 : a.0 ≡ (offset.0 ++ 11 ∷ content.0) ++ c.0.1 = offset.2 ∙ (ap (λ (y : List ℕ). offset.0 ++ y) e1 ∙ sym (append_assoc offset.0 (11 ∷ content.0) c.0.1)) in
+      let e3 : m.0.1 ≡ (65 ∷ (offset.0 ++ 11 ∷ content.0)) ++ c.0.1 = after_takes 65 m.0.1 a.0 g.1 ∙ ap (λ (y : List ℕ). 65 ∷ y) e2 in
+      let whole : bytes ≡ (memory.0 ++ 65 ∷ (offset.0 ++ 11 ∷ content.0)) ++ c.0.1 = memory.2 ∙ (ap (λ (y : List ℕ). memory.0 ++ y) e3 ∙ sym (append_assoc memory.0 (65 ∷ (offset.0 ++ 11 ∷ content.0)) c.0.1)) in
+      subst (λ (v : Segment × List ℕ). BeginsWith SpellsSegment bytes v.0 v.1) (some_is made (x, rest) c.2)
+      (memory.0 ++ 65 ∷ (offset.0 ++ 11 ∷ content.0), (memory.0, offset.0, content.0, o.0.0, refl, subst (λ (k : ℕ). SpellsUnsigned 32 memory.0 k) (eqb-true _ _ g.0) memory.1, offset.1, refl, content.1), whole);
+  again = λ front x rest s.
+      let tail : (s.1 ++ 11 ∷ s.2) ++ rest ≡ s.1 ++ (11 ∷ (s.2 ++ rest)) = append_assoc s.1 (11 ∷ s.2) rest in
+      let regrouped : front ++ rest ≡ s.0 ++ (65 ∷ (s.1 ++ (11 ∷ (s.2 ++ rest)))) = ap (λ (y : List ℕ). y ++ rest) s.4 ∙ (append_assoc s.0 (65 ∷ (s.1 ++ 11 ∷ s.2)) rest ∙ ap (λ (y : List ℕ). s.0 ++ (65 ∷ y)) tail) in
+      ap segment_at regrouped ∙ rw (u32_reader.again s.0 0 (65 ∷ (s.1 ++ (11 ∷ (s.2 ++ rest)))) s.5, after_again 65 (s.1 ++ (11 ∷ (s.2 ++ rest))), i32_reader.again s.1 s.3 (11 ∷ (s.2 ++ rest)) s.6, after_again 11 (s.2 ++ rest), bytes_reader.again s.2 x.bytes rest s.8) (ap (λ (k : ℕ). some (made_segment k x.bytes, rest)) (sym s.7));
 }
 
 -- ---- code

@@ -11,8 +11,12 @@ use Rattle.wasm_decode.specs.declared.items.Import.{Import}
 use Rattle.wasm_decode.specs.declared.fault.ThinFault.{ThinFault}
 use Rattle.wasm_decode.specs.declared.fault.ThinFault.TheVariants.{Malformed, NotYet, Memory}
 use Rattle.wasm_decode.specs.declared.thin.ThinImport.{ThinImport}
-use Rattle.wasm_decode.specs.declared.thin.ThinImport.TheVariants.{ProcExit}
+use Rattle.wasm_decode.specs.declared.thin.ThinImport.TheVariants.{ProcExit, FdWrite}
 use Rattle.wasm_decode.specs.declared.thin.ThinInstr.{ThinInstr}
+use Rattle.wasm_decode.specs.declared.thin.ThinMemory.{ThinMemory}
+use Rattle.wasm_decode.specs.declared.items.ExportKind.{ExportKind}
+use Rattle.wasm_decode.specs.declared.items.ExportKind.TheVariants.{Function, Memory as OfMemory}
+use Rattle.wasm_decode.specs.Segment.{Segment}
 use Rattle.wasm_decode.specs.declared.thin.ThinInstr.TheVariants.{Const, Call, Drop}
 
 -- What a function over a cursor answered, seen by view, and the bytes that the cursor has left are
@@ -138,7 +142,9 @@ func_type_at bytes = do
 
 -- the function that is imported under a name
 unfoldable pub import_of : List ℕ → Option ThinImport
-import_of name = if bytes_eq name (import_name ProcExit) then Some ProcExit else None
+import_of name =
+    if bytes_eq name (import_name ProcExit) then Some ProcExit
+    else (if bytes_eq name (import_name FdWrite) then Some FdWrite else None)
 
 unfoldable pub import_at : List ℕ → Option (Import × List ℕ)
 import_at bytes = do
@@ -149,12 +155,37 @@ import_at bytes = do
   index ← u32_at rest
   Some (record { what = what; of = index.0 }, index.1)
 
+unfoldable pub kind_of : ℕ → Option ExportKind
+kind_of b = if b == 0x00 then Some Function else (if b == 0x02 then Some OfMemory else None)
+
 unfoldable pub export_at : List ℕ → Option (Export × List ℕ)
 export_at bytes = do
   name ← bytes_at bytes
-  rest ← (if is_utf8 name.0 then after_byte 0x00 name.1 else None)
-  index ← u32_at rest
-  Some (record { name = name.0; index = index.0 }, index.1)
+  b ← (if is_utf8 name.0 then byte_at name.1 else None)
+  kind ← kind_of b.0
+  index ← u32_at b.1
+  Some (record { name = name.0; kind = kind; index = index.0 }, index.1)
+
+-- the limits behind the flag and the least number of pages
+abbrev pub limits_at : ℕ → ℕ → List ℕ → Option (ThinMemory × List ℕ)
+limits_at flag least bytes =
+    if flag == 0x00 then Some (record { min = least; max = None }, bytes)
+    else (if flag == 0x01 then (u32_at bytes >>= λ most. Some (record { min = least; max = Some most.0 }, most.1)) else None)
+
+unfoldable pub memory_at : List ℕ → Option (ThinMemory × List ℕ)
+memory_at bytes = do
+  flag ← byte_at bytes
+  least ← u32_at flag.1
+  limits_at flag.0 least.0 least.1
+
+unfoldable pub segment_at : List ℕ → Option (Segment × List ℕ)
+segment_at bytes = do
+  memory ← u32_at bytes
+  rest ← (if memory.0 == 0 then after_byte 0x41 memory.1 else None)
+  offset ← i32_at rest
+  behind ← after_byte 0x0b offset.1
+  content ← bytes_at behind
+  Some (record { offset = cast_unsigned w32 offset.0; bytes = content.0 }, content.1)
 
 -- an instruction behind its opcode
 unfoldable pub instr_of : ℕ → List ℕ → Option (ThinInstr × List ℕ)
@@ -195,6 +226,8 @@ parts_at bytes = do
   types ← section_at 1 (vector_at func_type_at) bytes
   imports ← optional_at 2 import_at types.1
   function ← section_at 3 (one_at u32_at) imports.1
-  exports ← section_at 7 (vector_at export_at) function.1
+  memories ← optional_at 5 memory_at function.1
+  exports ← section_at 7 (vector_at export_at) memories.1
   body ← section_at 10 (one_at (sized_at code_at)) exports.1
-  Some (record { types = types.0; imports = imports.0; function = function.0; exports = exports.0; body = body.0 }, body.1)
+  segments ← optional_at 11 segment_at body.1
+  Some (record { types = types.0; imports = imports.0; function = function.0; memories = memories.0; exports = exports.0; body = body.0; segments = segments.0 }, segments.1)

@@ -1,24 +1,32 @@
--- A module whose one function has no parameters, results and locals, and calls imports alone.
-use Rattle.std.specs.Prelude.{◌≡◌, ◌≤◌, ◌+◌, ◌-◌, ℕ, Bool, true, false, nat_le, nat_lt, if◌then◌else◌, List, [], ◌∷◌, length, count_by, slice_get, Option, Some, None, option_and_then}
+-- A module with at most one memory, whose one function has no parameters, results and locals, and
+-- calls imports alone.
+use Rattle.std.specs.Prelude.{◌≡◌, ◌≤◌, ◌+◌, ◌-◌, ◌*◌, ℕ, All, Bool, true, false, nat_le, nat_lt, if◌then◌else◌, List, [], ◌∷◌, length, count_by, slice_get, Option, Some, None, option_and_then}
 use Rattle.wasm_decode.specs.declared.thin.ThinImport.{ThinImport}
-use Rattle.wasm_decode.specs.declared.thin.ThinImport.TheVariants.{ProcExit}
+use Rattle.wasm_decode.specs.declared.thin.ThinImport.TheVariants.{ProcExit, FdWrite}
 use Rattle.wasm_decode.specs.declared.thin.ThinInstr.{ThinInstr}
+use Rattle.wasm_decode.specs.declared.thin.ThinMemory.{ThinMemory}
+use Rattle.wasm_decode.specs.Segment.{Segment}
 use Rattle.wasm_decode.specs.declared.thin.ThinInstr.TheVariants.{Const, Call, Drop}
 
--- the imported functions, and the instructions of the module's own function
+-- the imported functions, the memory and what it holds at first, and the instructions of the
+-- module's own function
 pub record ThinModule : Type 0 where
   pub imports : List ThinImport
+  pub memory : Option ThinMemory
+  pub segments : List Segment
   pub body : List ThinInstr
 
-abbrev pub module_with : List ThinImport → List ThinInstr → ThinModule
-module_with imports body = record { imports = imports; body = body }
+abbrev pub module_with : List ThinImport → Option ThinMemory → List Segment → List ThinInstr → ThinModule
+module_with imports memory segments body = record { imports = imports; memory = memory; segments = segments; body = body }
 
 -- how many operands, all of i32, an imported function takes, and how many results it gives
 abbrev pub takes : ThinImport → ℕ
 takes ProcExit = 1
+takes FdWrite = 4
 
 abbrev pub gives : ThinImport → ℕ
 gives ProcExit = 0
+gives FdWrite = 1
 
 -- the number of operands after a call, if there are enough before it
 abbrev pub height_after_call : Option ThinImport → ℕ → Option ℕ
@@ -41,8 +49,15 @@ is_call (Const n) = false
 is_call (Call index) = true
 is_call Drop = false
 
--- every instruction finds its operands, none is left at the end, and the body is within its bounds
+-- the segment lies within the memory as it is at first; a page is 65,536 bytes
+abbrev pub IsWithinMemory : Option ThinMemory → Segment → Type 0
+IsWithinMemory None s = ⊥
+IsWithinMemory (Some memory) s = s.offset + length s.bytes ≤ 65536 * memory.min
+
+-- every instruction finds its operands, none is left at the end, the body is within its
+-- bounds, and the segments lie within the memory
 pub record IsValid (m : ThinModule) : Type 0 where
   pub balanced : heights m.imports m.body 0 ≡ Some 0
   pub few : length m.body ≤ 1000
   pub few_calls : count_by is_call m.body ≤ 15
+  pub within : All (IsWithinMemory m.memory) m.segments

@@ -1,16 +1,22 @@
 //! Whether the parts of a module fit together (chapter 3 of the standard).
 
 ghost use Rattle.std.specs.Prelude.{◌≡◌, ◌≢◌, ◌≤◌, ◌+◌, ◌<◌, ◌^◌, ◌↔◌, ℕ, IsTrue, IfOk, length, map, All, Any, AllPairs, Some, slice_get, codes, count_by};
-ghost use Rattle.wasm_decode.specs.ThinModule.{height_after, heights, is_call, IsValid};
-ghost use Rattle.wasm_decode.specs.ThinGrammar.{type_of, plain_type};
+ghost use Rattle.wasm_decode.specs.ThinModule.{height_after, heights, is_call, IsWithinMemory};
+ghost use Rattle.wasm_decode.specs.ThinGrammar.{type_of, plain_type, IsMemory, IsInRange};
 ghost use Rattle.wasm_decode.specs.Views.{export_views};
 
-use crate::items::{Export, FuncType, Import};
-use crate::thin::{ThinImport, ThinInstr};
+use crate::items::{Export, ExportKind, FuncType, Import};
+use crate::thin::{ThinImport, ThinInstr, ThinMemory, ThinSegment};
 use std::alloc::{AllocError, Global};
 use std::collections::BTreeSet;
 
 const MAX_CALLS: usize = 15;
+
+const MAX_INITIAL_PAGES: u32 = 256;
+
+const MAX_PAGES: u32 = 65536;
+
+const PAGE: u64 = 65536;
 
 const START: &[u8] = b"_start";
 
@@ -22,6 +28,10 @@ fn import_type(import: ThinImport) -> FuncType
         ThinImport::ProcExit => FuncType {
             params: 1,
             results: 0,
+        },
+        ThinImport::FdWrite => FuncType {
+            params: 4,
+            results: 1,
         },
     }
 }
@@ -66,20 +76,71 @@ pub fn function_is_plain(types: &[FuncType], function: u32) -> bool
     )
 }
 
-/// Whether each export names a function: an import, or the own one behind them.
-pub fn exports_are_in_range(exports: &[Export], imports: usize) -> bool
-    ensures { IsTrue result ↔ All (λ e. e.index ≤ imports) exports.now }
+/// Whether the limits of a memory are right.
+fn memory_is_valid(memory: ThinMemory) -> bool
+    ensures { IsTrue result ↔ IsMemory memory }
 {
-    exports.iter().all(|e| e.index as usize <= imports)
+    memory.min <= MAX_INITIAL_PAGES
+        && match memory.max {
+            None => true,
+            Some(most) => memory.min <= most && most <= MAX_PAGES,
+        }
+}
+
+/// Whether the limits of each memory are right.
+pub fn memories_are_valid(memories: &[ThinMemory]) -> bool
+    ensures { IsTrue result ↔ All IsMemory memories.now }
+{
+    memories.iter().all(|m| memory_is_valid(*m))
+}
+
+/// Whether a segment lies within the memory as it is at first.
+fn segment_is_within(memory: Option<ThinMemory>, segment: &ThinSegment) -> bool
+    ensures { IsTrue result ↔ IsWithinMemory memory segment.now }
+{
+    match memory {
+        None => false,
+        Some(memory) => {
+            let len = segment.bytes().len() as u64;
+            len <= PAGE * u64::from(memory.min)
+                && u64::from(segment.offset()) + len <= PAGE * u64::from(memory.min)
+        }
+    }
+}
+
+/// Whether each segment lies within the memory as it is at first.
+pub fn segments_are_within(memory: Option<ThinMemory>, segments: &[ThinSegment]) -> bool
+    ensures { IsTrue result ↔ All (IsWithinMemory memory) segments.now }
+{
+    segments.iter().all(|s| segment_is_within(memory, s))
+}
+
+/// Whether this number is that of a function, an import or the own one behind them, or of a memory.
+fn is_in_range(kind: ExportKind, index: u32, imports: usize, memories: usize) -> bool
+    ensures { IsTrue result ↔ IsInRange imports memories kind index }
+{
+    match kind {
+        ExportKind::Function => index as usize <= imports,
+        ExportKind::Memory => (index as usize) < memories,
+    }
+}
+
+/// Whether each export names a function or a memory.
+pub fn exports_are_in_range(exports: &[Export], imports: usize, memories: usize) -> bool
+    ensures { IsTrue result ↔ All (λ e. IsInRange imports memories e.kind e.index) exports.now }
+{
+    exports
+        .iter()
+        .all(|e| is_in_range(e.kind, e.index, imports, memories))
 }
 
 /// Whether the own function is exported as `_start`.
 pub fn start_is_exported(exports: &[Export], imports: usize) -> bool
-    ensures { IsTrue result ↔ Any (λ e. (e.name.now ≡ codes "_start") × (e.index ≡ imports)) exports.now }
+    ensures { IsTrue result ↔ Any (λ e. (e.name.now ≡ codes "_start") × (e.kind ≡ ExportKind.Function) × (e.index ≡ imports)) exports.now }
 {
-    exports
-        .iter()
-        .any(|e| e.name == START && e.index as usize == imports)
+    exports.iter().any(|e| e.name == START
+        && e.kind == ExportKind::Function
+        && e.index as usize == imports)
 }
 
 /// Whether no two exports have one name.
@@ -104,6 +165,7 @@ fn height_behind(imports: &[ThinImport], instr: ThinInstr, height: usize) -> Opt
         ThinInstr::Const(_) => Some(height + 1),
         ThinInstr::Call(index) => match imports.get(index as usize)? {
             ThinImport::ProcExit => height.checked_sub(1),
+            ThinImport::FdWrite => height.checked_sub(4).map(|h| h + 1),
         },
         ThinInstr::Drop => height.checked_sub(1),
     }

@@ -1,7 +1,7 @@
 //! The items of a thin module, each read from the front of a cursor.
 
 ghost use Rattle.std.specs.Prelude.{◌≡◌, ℕ};
-ghost use Rattle.wasm_decode.specs.Reading.{Gives, GivesAll, i32s_at, func_type_at, import_of, import_at, export_at, instr_of, expr_at, no_locals_at, code_at, vector_at, each_at, all_at, one_at, sized_at, u32_at};
+ghost use Rattle.wasm_decode.specs.Reading.{Gives, GivesAll, i32s_at, func_type_at, import_of, import_at, export_at, kind_of, memory_at, segment_at, instr_of, expr_at, no_locals_at, code_at, vector_at, each_at, all_at, one_at, sized_at, u32_at};
 ghost use Rattle.wasm_decode.specs.Views.{export_view};
 ghost use Rattle.std.specs.List.{list_all};
 ghost use Rattle.std.specs.Str.{is_utf8};
@@ -9,8 +9,9 @@ ghost use Rattle.std.specs.Prelude.{◌==◌};
 
 use crate::fault::ThinFault;
 use crate::reading::{all_read, byte, byte_vector, expect, number, signed_number};
-use crate::thin::{ThinImport, ThinInstr};
+use crate::thin::{ThinImport, ThinInstr, ThinMemory, ThinSegment};
 use byte_cursor::Cursor;
+use std::alloc::Global;
 
 const I32: u8 = 0x7f;
 
@@ -18,15 +19,25 @@ const FUNCTION_TYPE: u8 = 0x60;
 
 const FUNCTION: u8 = 0x00;
 
+const MEMORY: u8 = 0x02;
+
+const NO_MAXIMUM: u8 = 0x00;
+
+const MAXIMUM: u8 = 0x01;
+
 const I32_CONST: u8 = 0x41;
 
 const CALL: u8 = 0x10;
 
 const DROP: u8 = 0x1a;
 
+const END: u8 = 0x0b;
+
 const WASI: &[u8] = b"wasi_snapshot_preview1";
 
 const PROC_EXIT: &[u8] = b"proc_exit";
+
+const FD_WRITE: &[u8] = b"fd_write";
 
 /// A function type over i32: how many parameters and how many results.
 #[derive(Clone, Copy)]
@@ -42,10 +53,18 @@ pub struct Import {
     pub of: u32,
 }
 
-/// An exported function: its name and its number.
+/// What is exported.
+#[derive(Clone, Copy, Debug, PartialEq, Eq)]
+pub enum ExportKind {
+    Function,
+    Memory,
+}
+
+/// An export: its name, what it is, and its number.
 #[derive(Clone, Copy)]
 pub struct Export<'a> {
     pub name: &'a [u8],
+    pub kind: ExportKind,
     pub index: u32,
 }
 
@@ -92,6 +111,8 @@ fn import_named(name: &[u8]) -> Result<ThinImport, ThinFault>
 {
     if name == PROC_EXIT {
         Ok(ThinImport::ProcExit)
+    } else if name == FD_WRITE {
+        Ok(ThinImport::FdWrite)
     } else {
         Err(ThinFault::NotYet)
     }
@@ -111,6 +132,17 @@ pub fn read_import(cursor: &mut Cursor) -> Result<Import, ThinFault>
     Ok(Import { what, of })
 }
 
+#[tactic(auto, unfolding(crate::specs::Reading::kind_of))]
+fn export_kind(byte: u8) -> Result<ExportKind, ThinFault>
+    ensures { GivesAll (λ k. k) result (kind_of byte) }
+{
+    match byte {
+        FUNCTION => Ok(ExportKind::Function),
+        MEMORY => Ok(ExportKind::Memory),
+        _ => Err(ThinFault::NotYet),
+    }
+}
+
 #[tactic(auto, unfolding(crate::specs::Reading::export_at))]
 pub fn read_export<'a>(cursor: &mut Cursor<'a>) -> Result<Export<'a>, ThinFault>
     ensures { Gives export_view result cursor.new (export_at cursor.old) }
@@ -119,9 +151,43 @@ pub fn read_export<'a>(cursor: &mut Cursor<'a>) -> Result<Export<'a>, ThinFault>
     if !is_text(name) {
         return Err(ThinFault::NotYet);
     }
-    expect(cursor, FUNCTION)?;
+    let kind = byte(cursor)?;
+    let kind = export_kind(kind)?;
     let index = number(cursor)?;
-    Ok(Export { name, index })
+    Ok(Export { name, kind, index })
+}
+
+#[tactic(auto, unfolding(crate::specs::Reading::memory_at))]
+pub fn read_memory(cursor: &mut Cursor) -> Result<ThinMemory, ThinFault>
+    ensures { Gives (λ m. m) result cursor.new (memory_at cursor.old) }
+{
+    let flag = byte(cursor)?;
+    let min = number(cursor)?;
+    match flag {
+        NO_MAXIMUM => Ok(ThinMemory { min, max: None }),
+        MAXIMUM => {
+            let max = number(cursor)?;
+            Ok(ThinMemory {
+                min,
+                max: Some(max),
+            })
+        }
+        _ => Err(ThinFault::NotYet),
+    }
+}
+
+#[tactic(auto, unfolding(crate::specs::Reading::segment_at))]
+pub fn read_segment(alloc: Global, cursor: &mut Cursor) -> Result<ThinSegment, ThinFault>
+    ensures { Gives (λ s. s) result cursor.new (segment_at cursor.old) }
+{
+    if number(cursor)? != 0 {
+        return Err(ThinFault::NotYet);
+    }
+    expect(cursor, I32_CONST)?;
+    let offset = signed_number(cursor)?;
+    expect(cursor, END)?;
+    let content = byte_vector(cursor)?;
+    Ok(ThinSegment::new(offset.cast_unsigned(), Vec::from_slice(alloc, content)?))
 }
 
 /// The instruction behind its opcode.

@@ -11,7 +11,7 @@ mod thin;
 
 pub use fault::ThinFault;
 pub use read::{one_thin_module, read_thin};
-pub use thin::{Thin, ThinImport, ThinInstr};
+pub use thin::{Thin, ThinImport, ThinInstr, ThinMemory, ThinSegment};
 
 #[cfg(test)]
 mod tests;

@@ -1,15 +1,16 @@
 //! The sections of a thin module, read from a cursor behind the preamble.
 
 ghost use Rattle.std.specs.Prelude.{◌≡◌, ℕ, map};
-ghost use Rattle.wasm_decode.specs.Reading.{Gives, GivesRest, func_type_at, import_at, export_at, no_locals_at, expr_at, code_at, vector_at, each_at, one_at, sized_at, section_at, optional_at, rest_of, begins_with, u32_at, parts_at};
+ghost use Rattle.wasm_decode.specs.Reading.{Gives, GivesRest, func_type_at, import_at, export_at, memory_at, segment_at, no_locals_at, expr_at, code_at, vector_at, each_at, one_at, sized_at, section_at, optional_at, rest_of, begins_with, u32_at, parts_at};
 ghost use Rattle.wasm_decode.specs.Views.{export_views, parts_view};
 
 use crate::fault::ThinFault;
 use crate::items::{
     Export, FuncType, Import, instruction, no_locals, read_export, read_func_type, read_import,
+    read_memory, read_segment,
 };
 use crate::reading::{all_read, byte, byte_vector, expect, number, section};
-use crate::thin::ThinInstr;
+use crate::thin::{ThinInstr, ThinMemory, ThinSegment};
 use byte_cursor::Cursor;
 use std::alloc::Global;
 
@@ -19,9 +20,13 @@ const IMPORT_SECTION: u8 = 2;
 
 const FUNCTION_SECTION: u8 = 3;
 
+const MEMORY_SECTION: u8 = 5;
+
 const EXPORT_SECTION: u8 = 7;
 
 const CODE_SECTION: u8 = 10;
+
+const DATA_SECTION: u8 = 11;
 
 const END: u8 = 0x0b;
 
@@ -34,8 +39,10 @@ pub struct Parts<'a> {
     pub imports: Vec<Import>,
     /// The number of the own function's type.
     pub function: u32,
+    pub memories: Vec<ThinMemory>,
     pub exports: Vec<Export<'a>>,
     pub body: Vec<ThinInstr>,
+    pub segments: Vec<ThinSegment>,
 }
 
 fn types_of(alloc: Global, cursor: &mut Cursor, count: u32) -> Result<Vec<FuncType>, ThinFault>
@@ -73,6 +80,32 @@ fn exports_of<'a>(
         exports.push(item)?;
     }
     Ok(exports)
+}
+
+fn memories_of(alloc: Global, cursor: &mut Cursor, count: u32) -> Result<Vec<ThinMemory>, ThinFault>
+    ensures { Gives (λ v. v.items) result cursor.new (each_at memory_at count cursor.old) }
+{
+    let mut memories = Vec::new(alloc);
+    for _ in 0..count {
+        let item = read_memory(cursor)?;
+        memories.push(item)?;
+    }
+    Ok(memories)
+}
+
+fn segments_of(
+    alloc: Global,
+    cursor: &mut Cursor,
+    count: u32,
+) -> Result<Vec<ThinSegment>, ThinFault>
+    ensures { Gives (λ v. v.items) result cursor.new (each_at segment_at count cursor.old) }
+{
+    let mut segments = Vec::new(alloc);
+    for _ in 0..count {
+        let item = read_segment(alloc, cursor)?;
+        segments.push(item)?;
+    }
+    Ok(segments)
 }
 
 fn skip_groups(cursor: &mut Cursor, count: u32) -> Result<(), ThinFault>
@@ -168,6 +201,50 @@ fn export_section<'a>(alloc: Global, cursor: &mut Cursor<'a>) -> Result<Vec<Expo
     Ok(exports)
 }
 
+#[tactic(auto, unfolding(crate::specs::Reading::section_at, crate::specs::Reading::all_at, crate::specs::Reading::vector_at))]
+fn memory_section(alloc: Global, cursor: &mut Cursor) -> Result<Vec<ThinMemory>, ThinFault>
+    ensures { Gives (λ v. v.items) result cursor.new (section_at 5 (vector_at memory_at) cursor.old) }
+{
+    let mut content = section(cursor, MEMORY_SECTION)?;
+    let count = number(&mut content)?;
+    let memories = memories_of(alloc, &mut content, count)?;
+    all_read(&content)?;
+    Ok(memories)
+}
+
+#[tactic(auto, unfolding(crate::specs::Reading::optional_at))]
+fn memories(alloc: Global, cursor: &mut Cursor) -> Result<Vec<ThinMemory>, ThinFault>
+    ensures { Gives (λ v. v.items) result cursor.new (optional_at 5 memory_at cursor.old) }
+{
+    if has_section(cursor, MEMORY_SECTION) {
+        memory_section(alloc, cursor)
+    } else {
+        Ok(Vec::new(alloc))
+    }
+}
+
+#[tactic(auto, unfolding(crate::specs::Reading::section_at, crate::specs::Reading::all_at, crate::specs::Reading::vector_at))]
+fn data_section(alloc: Global, cursor: &mut Cursor) -> Result<Vec<ThinSegment>, ThinFault>
+    ensures { Gives (λ v. v.items) result cursor.new (section_at 11 (vector_at segment_at) cursor.old) }
+{
+    let mut content = section(cursor, DATA_SECTION)?;
+    let count = number(&mut content)?;
+    let segments = segments_of(alloc, &mut content, count)?;
+    all_read(&content)?;
+    Ok(segments)
+}
+
+#[tactic(auto, unfolding(crate::specs::Reading::optional_at))]
+fn segments(alloc: Global, cursor: &mut Cursor) -> Result<Vec<ThinSegment>, ThinFault>
+    ensures { Gives (λ v. v.items) result cursor.new (optional_at 11 segment_at cursor.old) }
+{
+    if has_section(cursor, DATA_SECTION) {
+        data_section(alloc, cursor)
+    } else {
+        Ok(Vec::new(alloc))
+    }
+}
+
 /// A function's code, without locals.
 #[tactic(auto, unfolding(crate::specs::Reading::code_at, crate::specs::Reading::vector_at))]
 fn code(alloc: Global, cursor: &mut Cursor) -> Result<Vec<ThinInstr>, ThinFault>
@@ -209,13 +286,17 @@ pub fn read_parts<'a>(alloc: Global, cursor: &mut Cursor<'a>) -> Result<Parts<'a
     let types = type_section(alloc, cursor)?;
     let imports = imports(alloc, cursor)?;
     let function = function_section(cursor)?;
+    let memories = memories(alloc, cursor)?;
     let exports = export_section(alloc, cursor)?;
     let body = code_section(alloc, cursor)?;
+    let segments = segments(alloc, cursor)?;
     Ok(Parts {
         types,
         imports,
         function,
+        memories,
         exports,
         body,
+        segments,
     })
 }

@@ -1,6 +1,6 @@
 //! Reading a thin module from all of its bytes.
 
-ghost use Rattle.std.specs.Prelude.{◌≡◌, ◌≢◌, ◌≤◌, ◌++◌, ◌↔◌, ◌<◌, ℕ, List, IsTrue, IfOk, length, map, take, Result, Ok, Err, IfSome, IfNone};
+ghost use Rattle.std.specs.Prelude.{◌≡◌, ◌≢◌, ◌≤◌, ◌++◌, ◌↔◌, ◌<◌, ℕ, List, IsTrue, IfOk, length, map, take, Result, Ok, Err, IfSome, IfNone, slice_get};
 ghost use Rattle.wasm_decode.specs.ThinModule.{ThinModule};
 ghost use Rattle.wasm_decode.specs.ThinGrammar.{SpellsSections, SpellsThin, preamble};
 ghost use Rattle.wasm_decode.specs.Reading.{GivesAll, all_at, parts_at};
@@ -9,12 +9,12 @@ ghost use Rattle.wasm_decode.specs.Views.{parts_view, PartsFit};
 
 use crate::check::{
     calls_are_few, exports_are_in_range, function_is_plain, imports_are_typed, is_balanced,
-    names_differ, results_are_few, start_is_exported,
+    memories_are_valid, names_differ, results_are_few, segments_are_within, start_is_exported,
 };
 use crate::fault::ThinFault;
 use crate::parts::{Parts, read_parts};
 use crate::reading::all_read;
-use crate::thin::{Thin, ThinImport};
+use crate::thin::{Thin, ThinImport, ThinMemory};
 use byte_cursor::Cursor;
 use std::alloc::{AllocError, Global};
 
@@ -38,6 +38,13 @@ fn imported(alloc: Global, parts: &Parts) -> Result<Vec<ThinImport>, AllocError>
     parts.imports.iter().map(|i| i.what).collect(alloc)
 }
 
+/// The memory of number 0.
+fn first_memory(parts: &Parts) -> Option<ThinMemory>
+    ensures { result ≡ slice_get parts.now.memories.items 0 }
+{
+    parts.memories.first().copied()
+}
+
 /// Whether the parts fit together, but for the names of the exports.
 fn parts_fit(parts: &Parts, imports: &[ThinImport]) -> bool
     requires short { length parts.now.body.items ≤ 1000 }
@@ -45,13 +52,18 @@ fn parts_fit(parts: &Parts, imports: &[ThinImport]) -> bool
     ensures { IsTrue result ↔ PartsFit parts.now }
 {
     let count = parts.imports.len();
+    let memories = parts.memories.len();
+    let memory = first_memory(parts);
     results_are_few(&parts.types)
         && imports_are_typed(&parts.types, &parts.imports)
         && function_is_plain(&parts.types, parts.function)
-        && exports_are_in_range(&parts.exports, count)
+        && memories <= 1
+        && memories_are_valid(&parts.memories)
+        && exports_are_in_range(&parts.exports, count, memories)
         && start_is_exported(&parts.exports, count)
         && is_balanced(imports, &parts.body)
         && calls_are_few(&parts.body)
+        && segments_are_within(memory, &parts.segments)
 }
 
 /// The module that the bytes behind the preamble spell.
@@ -66,7 +78,8 @@ fn read_sections(alloc: Global, bytes: &[u8]) -> Result<Thin, ThinFault>
     if !names_differ(alloc, &parts.exports)? {
         return Err(ThinFault::NotYet);
     }
-    Ok(Thin::new(imports, parts.body))
+    let memory = first_memory(&parts);
+    Ok(Thin::new(imports, memory, parts.segments, parts.body))
 }
 
 /// The bytes behind the preamble.
@@ -86,10 +99,11 @@ fn behind_preamble(bytes: &[u8]) -> Option<&[u8]>
 }
 
 /// Reads a thin module: of the binary format of WebAssembly Core 1.0 the modules with the sections
-/// type, import, function, export and code alone, over i32, whose one own function has neither
-/// parameters, results nor locals, is exported as `_start`, and has at most 1,000 instructions, each
-/// `i32.const`, `drop` or a `call` of the import `proc_exit` of `wasi_snapshot_preview1`, at most 15
-/// of them calls.
+/// type, import, function, memory, export, code and data alone, over i32, with at most one memory of
+/// at most 256 pages at first, whose one own function has neither parameters, results nor locals, is
+/// exported as `_start`, and has at most 1,000 instructions, each `i32.const`, `drop` or a `call` of
+/// the imports `proc_exit` and `fd_write` of `wasi_snapshot_preview1`, at most 15 of them calls. Each
+/// data segment has an `i32.const` as its offset and lies within the memory as it is at first.
 ///
 /// `Malformed` comes exactly where the first eight bytes aren't the magic number and the version 1,
 /// `NotYet` exactly where they are and the bytes spell no thin module.

@@ -9,6 +9,9 @@ use std::marker::Model;
 pub enum ThinImport {
     /// `proc_exit`, which takes the exit code, an i32, and gives nothing.
     ProcExit,
+    /// `fd_write`, which takes a descriptor, the address and the length of a list of buffers, and
+    /// where the count goes, all i32, and gives an error number.
+    FdWrite,
 }
 
 impl ThinImport {
@@ -35,34 +38,94 @@ pub enum ThinInstr {
     Drop,
 }
 
-/// A module whose one function, `_start`, has no parameters, results and locals, and calls imported
-/// functions alone. Contracts see it as the list of its imports and the list of its instructions.
-/// Every instruction finds its operands, none is left at the end, every call names an import, and
-/// there are at most 1,000 instructions, at most 15 of them calls.
+/// A memory: how many pages of 65,536 bytes it has at first, at most 256, and at most.
+#[derive(Clone, Copy, Debug, PartialEq, Eq)]
+pub struct ThinMemory {
+    pub min: u32,
+    pub max: Option<u32>,
+}
+
+/// Bytes that the memory holds at first.
+#[derive(Drop)]
+pub struct ThinSegment {
+    offset: u32,
+    bytes: Vec<u8>,
+}
+
+impl Model for ThinSegment {
+    ghost use Rattle.wasm_decode.specs.Segment.{Segment};
+
+    ghost Value = { Segment };
+
+    ghost view = { λ s. record { offset = s.offset; bytes = s.bytes.items } };
+}
+
+impl ThinSegment {
+    ghost use Rattle.wasm_decode.specs.Segment.{segment_with};
+
+    pub(crate) fn new(offset: u32, bytes: Vec<u8>) -> ThinSegment
+        ensures { result ≡ segment_with offset bytes.items }
+    {
+        ThinSegment { offset, bytes }
+    }
+
+    /// Where in the memory the bytes begin.
+    pub fn offset(&self) -> u32
+        ensures { result ≡ self.now.offset }
+    {
+        self.offset
+    }
+
+    /// The bytes.
+    pub fn bytes(&self) -> &[u8]
+        ensures { result.now ≡ self.now.bytes }
+    {
+        &self.bytes
+    }
+}
+
+/// A module with at most one memory, whose one function, `_start`, has no parameters, results and
+/// locals, and calls imported functions alone. Contracts see it as the list of its imports, its
+/// memory, the list of its data segments and the list of its instructions. Every instruction finds
+/// its operands, none is left at the end, every call names an import, there are at most 1,000
+/// instructions, at most 15 of them calls, and every segment lies within the memory as it is at
+/// first.
 #[derive(Drop)]
 pub struct Thin {
     imports: Vec<ThinImport>,
+    memory: Option<ThinMemory>,
+    segments: Vec<ThinSegment>,
     body: Vec<ThinInstr>,
 }
 
 impl Model for Thin {
-    ghost use Rattle.wasm_decode.specs.ThinModule.{ThinModule, IsValid};
+    ghost use Rattle.wasm_decode.specs.ThinModule.{ThinModule, IsValid, module_with};
 
     ghost Value = { ThinModule };
 
-    ghost view = { λ t. record { imports = t.imports.items; body = t.body.items } };
+    ghost view = { λ t. module_with t.imports.items t.memory t.segments.items t.body.items };
 
-    ghost invariant = { λ t. IsValid (record { imports = t.imports.items; body = t.body.items }) };
+    ghost invariant = { λ t. IsValid (module_with t.imports.items t.memory t.segments.items t.body.items) };
 }
 
 impl Thin {
     ghost use Rattle.wasm_decode.specs.ThinModule.{IsValid, module_with};
 
-    pub(crate) fn new(imports: Vec<ThinImport>, body: Vec<ThinInstr>) -> Thin
-        requires { IsValid (module_with imports.items body.items) }
-        ensures { result ≡ module_with imports.items body.items }
+    pub(crate) fn new(
+        imports: Vec<ThinImport>,
+        memory: Option<ThinMemory>,
+        segments: Vec<ThinSegment>,
+        body: Vec<ThinInstr>,
+    ) -> Thin
+        requires { IsValid (module_with imports.items memory segments.items body.items) }
+        ensures { result ≡ module_with imports.items memory segments.items body.items }
     {
-        Thin { imports, body }
+        Thin {
+            imports,
+            memory,
+            segments,
+            body,
+        }
     }
 
     /// The imported functions, by their numbers.
@@ -71,6 +134,22 @@ impl Thin {
         ensures valid { IsValid self.now }
     {
         &self.imports
+    }
+
+    /// The memory, if there is one.
+    pub fn memory(&self) -> Option<ThinMemory>
+        ensures memory { result ≡ self.now.memory }
+        ensures valid { IsValid self.now }
+    {
+        self.memory
+    }
+
+    /// What the memory holds at first: the segments, a later one over an earlier one.
+    pub fn segments(&self) -> &[ThinSegment]
+        ensures segments { result.now ≡ self.now.segments }
+        ensures valid { IsValid self.now }
+    {
+        &self.segments
     }
 
     /// The instructions of the own function.

@@ -1,8 +1,9 @@
-use Rattle.std.proofs.Common.{List, sym, ap, subst, ◌∙◌}
-use Rattle.std.specs.Prelude.{AllPairs}
+use Rattle.std.proofs.Common.{Option, List, sym, ap, subst, ◌∙◌}
+use Rattle.std.specs.Prelude.{AllPairs, slice_get}
 use Rattle.std.proofs.lemmas.Result.{err_from_is_err_and}
 use Rattle.wasm_decode.specs.declared.items.Export.{Export as KeptExport}
 use Rattle.wasm_decode.specs.declared.thin.ThinImport.{ThinImport}
+use Rattle.wasm_decode.specs.declared.thin.ThinMemory.{ThinMemory}
 use Rattle.wasm_decode.specs.ThinModule.{IsValid, module_with}
 use Rattle.wasm_decode.specs.Views.{parts_view}
 use Rattle.wasm_decode.proofs.Distinct.{Differ}
@@ -32,11 +33,12 @@ new-requires c =
     let p = c.in_ok-parts.parts in
     let d = subst (λ (es : List KeptExport). AllPairs Differ es) c.deref-2.ensures.value (c.in_ok-names_differ.ensures.0 c.if-not-branch.false) in
     let thin = thin_from_fit p (short_of c.args.bytes.now (parts_view p) c.in_ok-parts.ensures) (c.parts_fit.ensures.0 c.if-not-parts_fit.false) d in
-    subst (λ (imports : List ThinImport). IsValid (module_with imports p.body.items)) (sym c.in_ok-imports.ensures) thin.valid
+    subst (λ (memory : Option ThinMemory). IsValid (module_with c.in_ok-imports.imports.items memory p.segments.items p.body.items)) (sym c.first_memory-memory.ensures)
+    (subst (λ (imports : List ThinImport). IsValid (module_with imports (slice_get p.memories.items 0) p.segments.items p.body.items)) (sym c.in_ok-imports.ensures) thin.valid)
 
 pub returns : goal.returns
 returns c =
     let p = c.in_ok-parts.parts in
     let d = subst (λ (es : List KeptExport). AllPairs Differ es) c.deref-2.ensures.value (c.in_ok-names_differ.ensures.0 c.if-not-branch.false) in
     let thin = thin_from_fit p (short_of c.args.bytes.now (parts_view p) c.in_ok-parts.ensures) (c.parts_fit.ensures.0 c.if-not-parts_fit.false) d in
-    spelled_by c.args.bytes.now (parts_view p) c.new.result c.in_ok-parts.ensures thin (c.new.ensures ∙ ap (λ (imports : List ThinImport). module_with imports p.body.items) c.in_ok-imports.ensures)
+    spelled_by c.args.bytes.now (parts_view p) c.new.result c.in_ok-parts.ensures thin (c.new.ensures ∙ ap (λ (memory : Option ThinMemory). module_with c.in_ok-imports.imports.items memory p.segments.items p.body.items) c.first_memory-memory.ensures ∙ ap (λ (imports : List ThinImport). module_with imports (slice_get p.memories.items 0) p.segments.items p.body.items) c.in_ok-imports.ensures)

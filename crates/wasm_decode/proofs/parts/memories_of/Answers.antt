@@ -1,0 +1,16 @@
+use Rattle.std.proofs.lemmas.Result.{err_from_is_err_and}
+use Rattle.wasm_decode.specs.Reading.{each_at, memory_at}
+use Rattle.wasm_decode.proofs.Loop.{goes_on, ends, is_done}
+use Rattle.wasm_decode.proofs.parts.memories_of.Goals as goal
+
+pub returns-in_err-item : goal.returns-in_err-item
+returns-in_err-item c =
+    let p = err_from_is_err_and c.from_residual.result c.from_residual.ensures.1 in
+    rw (p.1, p.2) (ends c.in_err-item.field-0.0 memory_at c.loop.memories.items c.args.count c.loop.counter c.loop.cursor (each_at memory_at c.args.count c.args.cursor.now) c.loop-test.true c.in_err-item.ensures c.loop.invariant)
+
+pub loop-preserved : goal.loop-preserved
+loop-preserved c =
+    rw c.in_ok-push.ensures.items (goes_on memory_at c.loop.memories.items c.args.count c.loop.counter c.loop.cursor c.in_ok-item.item c.read_memory.new.cursor (each_at memory_at c.args.count c.args.cursor.now) c.loop-test.true c.in_ok-item.ensures c.loop.invariant)
+
+pub returns : goal.returns
+returns c = is_done memory_at c.loop.memories.items c.args.count c.loop.counter c.loop.cursor (each_at memory_at c.args.count c.args.cursor.now) c.loop-test.false c.loop.invariant
