@@ -61,6 +61,7 @@ impl Thread {
         ensures main { IfOk result (λ t. t.main ≡ main) }
         // One step for each of at most 1,000 instructions, and one for the end.
         ensures short { IfOk result (λ t. steps_left (thread_of program.now t) ≤ 1001) }
+        ensures few_calls { IfOk result (λ t. calls_left (thread_of program.now t) ≤ 15) }
     {
         let operands = Vec::with_capacity(alloc, program.body().len())?;
         Ok(Thread { position: 0, operands, returned: false, main })

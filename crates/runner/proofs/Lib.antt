@@ -4,3 +4,6 @@ pub mod Maps
 pub mod Clauses
 pub mod Turns
 pub mod Console
+pub mod Segments
+pub mod Found
+pub mod Whole

@@ -28,7 +28,7 @@ use Rattle.interp.specs.Left.{steps_left}
 use Rattle.runner.specs.Kernel.{Kernel, End, Exited, Handed, Fresh}
 use Rattle.runner.specs.Answer.{Answer, answer, Answers, risen, end_process}
 use Rattle.runner.specs.World.{World, Replies, Leads}
-use Rattle.runner.specs.OneProcess.{StandsAt, LeadsOn, default_slice, default_fuel, end_entry, LeadsToEnd, WriteReply, write_reply, write_entry}
+use Rattle.runner.specs.OneProcess.{StandsAt, LeadsOn, default_slice, default_fuel, end_entry, LeadsToEnd, WriteReply, write_reply, write_entry, reply_of, memory_after}
 
 -- a thread that stops at a call ends its slice
 ends_call : (ran most i : ℕ) (s : Stepped) → StopsAs s (Call i) → EndsSlice ran most s
@@ -138,14 +138,6 @@ return_leads world program memory thread next ran at steps within stops main =
 abbrev write_request_of : LinearMemory → List ℕ → Request
 write_request_of memory args = request_of memory.bytes 17 args
 
--- what a write comes to
-abbrev pub reply_of : LinearMemory → List ℕ → WriteReply
-reply_of memory args = write_reply (write_request_of memory args).refused (slice_index (write_request_of memory args).words 0) (write_request_of memory args).one
-
--- the memory after it
-abbrev pub memory_after : LinearMemory → List ℕ → LinearMemory
-memory_after memory args = record memory { bytes = apply_reply memory.bytes (write_request_of memory args) (reply_of memory args).errno (reply_of memory args).bytes }
-
 -- a call of fd_write
 pub write_leads : (world : World) (program : ThinModule) (memory : LinearMemory) (thread next : GuestThread) (ran i : ℕ) (args : List ℕ) → StandsAt world program memory thread
     → ((m : LinearMemory) → after ran program m thread ≡ Some (m, next))
@@ -203,5 +195,10 @@ pub first_word : (args : List ℕ) → length args ≡ 1 → slice_index (nine_w
 first_word [] is = absurd (omega arith)
 first_word (x ∷ args) is = refl
 
-pub as_entry : (world : World) (entry entry' : Entry) (code code' : ℕ) → entry ≡ entry' → code ≡ code' → LeadsToEnd world entry' code' → LeadsToEnd world entry code
-as_entry world entry entry' code code' e k leads = subst (λ (x : Entry). LeadsToEnd world x code) (sym e) (subst (λ n. LeadsToEnd world entry' n) (sym k) leads)
+-- the same in other words
+pub as_leads : (world : World) (program : ThinModule) (memory memory' : LinearMemory) (thread thread' : GuestThread) (entry entry' : Entry) (ended ended' : Option ℕ) → memory ≡ memory' → thread ≡ thread' → entry ≡ entry' → ended ≡ ended' → LeadsOn world program memory' thread' entry' ended' → LeadsOn world program memory thread entry ended
+as_leads world program memory memory' thread thread' entry entry' ended ended' m t e n leads =
+    subst (λ (x : LinearMemory). LeadsOn world program x thread entry ended) (sym m)
+      (subst (λ (x : GuestThread). LeadsOn world program memory' x entry ended) (sym t)
+        (subst (λ (x : Entry). LeadsOn world program memory' thread' x ended) (sym e)
+          (subst (λ (x : Option ℕ). LeadsOn world program memory' thread' entry' x) (sym n) leads)))

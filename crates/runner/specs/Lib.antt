@@ -9,3 +9,4 @@ pub mod Boot
 pub mod Run
 pub mod Weight
 pub mod OneProcess
+pub mod Ran

@@ -1,5 +1,5 @@
 -- A world of one process with one thread, which is handed out.
-use Rattle.std.specs.Prelude.{◌≡◌, ◌≤◌, ℕ, ◌+◌, List, [], nat_eq, if◌then◌else◌, Option, Some, None, true}
+use Rattle.std.specs.Prelude.{◌≡◌, ◌≤◌, ◌<◌, ℕ, ◌+◌, List, [], nat_eq, slice_index, if◌then◌else◌, Option, Some, None, true}
 use Rattle.std.specs.FinMap.{get}
 use Rattle.wx_types.specs.declared.entries.Entry.{Entry}
 use Rattle.wx_types.specs.declared.entries.Outcome.TheVariants.{Reply, Ended as EndedOutcome}
@@ -7,12 +7,14 @@ use Rattle.wx_types.specs.declared.entries.Place.{Place}
 use Rattle.wx_types.specs.declared.entries.Place.TheVariants.{Nowhere, Output as OutputPlace, Error as ErrorPlace}
 use Rattle.wx_types.specs.Errno.{errno_number}
 use Rattle.wx_types.specs.declared.errors.Errno.TheVariants.{Badf, Isdir, Notcapable}
-use Rattle.wasix_abi.specs.Requests.{fd_write}
+use Rattle.wasix_abi.specs.Requests.{fd_write, request_of}
+use Rattle.wasix_abi.specs.Replies.{apply_reply}
 use Rattle.wasm_decode.specs.ThinModule.{ThinModule}
-use Rattle.interp.specs.GuestThread.{GuestThread}
+use Rattle.interp.specs.GuestThread.{GuestThread, Snapshot, thread_of}
+use Rattle.interp.specs.Fits.{Fits}
 use Rattle.runner.specs.Process.{Process}
 use Rattle.linear_memory.specs.LinearMemory.{LinearMemory}
-use Rattle.interp.specs.Left.{steps_left}
+use Rattle.interp.specs.Left.{steps_left, calls_left}
 use Rattle.runner.specs.Kernel.{Handed, Fresh, Exited}
 use Rattle.runner.specs.World.{World, Leads}
 use Rattle.runner.specs.Boot.{Boot, Loads, first_descriptors, first_descriptions}
@@ -85,3 +87,22 @@ write_reply refused fd bytes =
 -- the entry of a write
 abbrev pub write_entry : ℕ → WriteReply → Entry
 write_entry ran reply = record { pid = 1; tid = 1; ran = ran; call = fd_write; outcome = Reply reply.errno reply.bytes reply.place; signal = 0 }
+
+-- what a write with these arguments comes to, over this memory
+abbrev pub reply_of : LinearMemory → List ℕ → WriteReply
+reply_of memory args =
+    let request = request_of memory.bytes fd_write args in
+    write_reply request.refused (slice_index request.words 0) request.one
+
+-- and the memory after it
+abbrev pub memory_after : LinearMemory → List ℕ → LinearMemory
+memory_after memory args =
+    let reply = reply_of memory args in
+    record memory { bytes = apply_reply memory.bytes (request_of memory.bytes fd_write args) reply.errno reply.bytes }
+
+-- what a turn that doesn't end the run leaves of its thread
+pub record GoesOn (program : ThinModule) (before after : Snapshot) : Type 0 where
+  pub fits : Fits program (thread_of program after)
+  pub main : after.main ≡ true
+  pub fewer : steps_left (thread_of program after) < steps_left (thread_of program before)
+  pub calls : calls_left (thread_of program after) + 1 ≡ calls_left (thread_of program before)

@@ -2,14 +2,15 @@
 use Rattle.std.proofs.Common.{◌≡◌, ℕ, ◌≤◌, ◌<◌, List, [], ◌∷◌, length, get_or, Some, None, Err, sym, ap, subst, ◌∙◌, arith}
 use Rattle.std.specs.Prelude.{All, Any, AllPairs, codes, slice_get}
 use Rattle.std.proofs.lemmas.List.{get_or-map, length-map, get_or_default}
-use Rattle.std.proofs.lemmas.List.Elements.{All-map}
+use Rattle.std.proofs.lemmas.List.Elements.{All-map, recursion_from_All}
 use Rattle.wasm_decode.specs.declared.items.Export.{Export as KeptExport}
 use Rattle.wasm_decode.specs.declared.items.ExportKind.TheVariants.{Function}
 use Rattle.wasm_decode.specs.declared.parts.Parts.{Parts as KeptParts}
 use Rattle.wasm_decode.specs.declared.fault.ThinFault.{ThinFault}
 use Rattle.wasm_decode.specs.declared.fault.ThinFault.TheVariants.{Malformed, NotYet, Memory}
-use Rattle.wasm_decode.specs.ThinModule.{ThinModule}
-use Rattle.wasm_decode.specs.ThinGrammar.{Export, Parts, IsInRange, IsThin, SpellsParts, SpellsSections, module_of}
+use Rattle.wasm_decode.specs.ThinModule.{ThinModule, HasFewPages}
+use Rattle.wasm_decode.specs.declared.thin.ThinMemory.{ThinMemory}
+use Rattle.wasm_decode.specs.ThinGrammar.{Export, Parts, IsInRange, IsMemory, IsThin, SpellsParts, SpellsSections, module_of}
 use Rattle.wasm_decode.specs.Reading.{Fails, all_at, parts_at}
 use Rattle.wasm_decode.specs.Answer.{Answers}
 use Rattle.wasm_decode.specs.Views.{export_view, export_views, parts_view, PartsFit}
@@ -49,6 +50,10 @@ pairs_unmapped es h i j d lt few same =
     let at_j = get_or-map export_view es j d (export_view d) few in
     h i j (export_view d) lt few' (ap (λ (x : Export). x.name) at_i ∙ (same ∙ ap (λ (x : Export). x.name) (sym at_j)))
 
+few_pages : (ms : List ThinMemory) → All IsMemory ms → HasFewPages (slice_get ms 0)
+few_pages [] h = tt
+few_pages (m ∷ ms) h = (recursion_from_All IsMemory (m ∷ ms) h).0.0
+
 pub thin_from_fit : (p : KeptParts) → length p.body.items ≤ 1000 → PartsFit p → AllPairs Differ p.exports.items → IsThin (parts_view p)
 thin_from_fit p short fit differ = record {
   results = fit.results;
@@ -59,7 +64,7 @@ thin_from_fit p short fit differ = record {
   in_range = All-map (λ e. IsInRange (length p.imports.items) (length p.memories.items) e.kind e.index) export_view p.exports.items fit.in_range;
   differ = pairs_mapped p.exports.items differ;
   start = any_mapped (λ e. (e.name ≡ codes "_start") × (e.kind ≡ Function) × (e.index ≡ length p.imports.items)) p.exports.items fit.start;
-  valid = record { balanced = fit.balanced; few = short; few_calls = fit.few_calls; within = fit.within };
+  valid = record { balanced = fit.balanced; few = short; few_calls = fit.few_calls; pages = few_pages p.memories.items fit.memories; within = fit.within };
 }
 
 pub fit_from_thin : (p : KeptParts) → IsThin (parts_view p) → PartsFit p × AllPairs Differ p.exports.items

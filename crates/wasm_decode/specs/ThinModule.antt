@@ -54,10 +54,16 @@ abbrev pub IsWithinMemory : Option ThinMemory → Segment → Type 0
 IsWithinMemory None s = ⊥
 IsWithinMemory (Some memory) s = s.offset + length s.bytes ≤ 65536 * memory.min
 
+-- a memory has at most 256 pages at first
+abbrev pub HasFewPages : Option ThinMemory → Type 0
+HasFewPages None = Unit {0}
+HasFewPages (Some memory) = memory.min ≤ 256
+
 -- every instruction finds its operands, none is left at the end, the body is within its
--- bounds, and the segments lie within the memory
+-- bounds, the memory has few pages, and the segments lie within it
 pub record IsValid (m : ThinModule) : Type 0 where
   pub balanced : heights m.imports m.body 0 ≡ Some 0
   pub few : length m.body ≤ 1000
   pub few_calls : count_by is_call m.body ≤ 15
+  pub pages : HasFewPages m.memory
   pub within : All (IsWithinMemory m.memory) m.segments

@@ -23,6 +23,7 @@ impl ThinImport {
     {
         match self {
             ThinImport::ProcExit => 1,
+            ThinImport::FdWrite => 4,
         }
     }
 }
