@@ -1,5 +1,5 @@
 -- The answer to a command, case by case.
-use Rattle.std.proofs.Common.{◌≡◌, ◌≢◌, ◌<◌, ◌≤◌, ◌↔◌, ℕ, List, [], ◌∷◌, ◌++◌, length, take, cond, Option, Some, None, Result, Ok, Err, refl, sym, ap, subst, ◌∙◌, arith}
+use Rattle.std.proofs.Common.{◌≡◌, ◌≢◌, ◌<◌, ◌≤◌, ◌↔◌, ◌⊎◌, ℕ, List, [], ◌∷◌, ◌++◌, length, take, cond, inl, inr, Option, Some, None, Result, Ok, Err, refl, sym, ap, subst, ◌∙◌, arith}
 use Rattle.std.proofs.lemmas.List.{take_at}
 use Rattle.std.specs.Ordering.{nat_cmp}
 use Rattle.std.specs.Cmp.Lexicographic.{slice_cmp, nat_list_cmp_total}
@@ -19,12 +19,13 @@ use Rattle.runner.specs.Boot.{Boot, Loads, boot_world}
 use Rattle.runner.specs.Run.{Run, RunsTo, EachReply, InOrder, EndsAs, StopsOf}
 use Rattle.runner.specs.OneProcess.{Begins}
 use Rattle.wasix_run.specs.declared.reason.Reason.{Reason}
-use Rattle.wasix_run.specs.declared.reason.Reason.TheVariants.{Exited, Usage, ShelfFault, TooLong, BadProgram, Memory}
+use Rattle.wasix_run.specs.declared.reason.Reason.TheVariants.{Exited, Usage, ShelfFault, TooLong, BadProgram, WriteFault, Memory}
 use Rattle.wasix_run.specs.Line.{One, line}
 use Rattle.wasix_run.specs.Outside.{Names, Boots, RunEnds, one_boot, program_path, program_limit}
-use Rattle.wasix_run.specs.Causes.{ExactlyWhere, IsTooLong, IsMalformed, IsNotYet}
+use Rattle.wasix_run.specs.Causes.{ExactlyWhere, ComesUnwritten, IsTooLong, IsMalformed, IsNotYet}
 use Rattle.wasix_run.specs.Loading.{Loading, HasProgram, IsLoadFault}
-use Rattle.wasix_run.specs.Serves.{Serves, Ran, reason_of}
+use Rattle.wasix_run.specs.Serves.{Serves, IsRun, reason_of}
+use Rattle.runner.specs.Ran.{Ran}
 
 -- the words name one file, and the shelf has one content under it
 same_bytes : (words : List (List ℕ)) (files : Files) (file a b : List ℕ) → line words ≡ Some (One file) → file_named files file ≡ Some b → Names words files a → a ≡ b
@@ -128,10 +129,11 @@ module _ (words : List (List ℕ)) (files : Files) where
     too_long = neither Usage TooLong (IsTooLong words files) (λ e. cc) (λ c. no_names words files c.0 none c.1);
     malformed = neither Usage (BadProgram Malformed) (IsMalformed words files) (λ e. cc) (λ c. no_names words files c.0 none c.1);
     not_yet = neither Usage (BadProgram NotYet) (IsNotYet words files) (λ e. cc) (λ c. no_names words files c.0 none c.1);
+    complete = λ boot boots sound. absurd (no_names words files boots.bytes none boots.names);
   }
 
-  refused : (reason : Reason) → ((code : ℕ) → reason ≢ Exited code) → ExactlyWhere reason TooLong (IsTooLong words files) → ExactlyWhere reason (BadProgram Malformed) (IsMalformed words files) → ExactlyWhere reason (BadProgram NotYet) (IsNotYet words files) → Serves words files reason []
-  refused reason open_still long bad later = record {
+  refused : (reason : Reason) → ((code : ℕ) → reason ≢ Exited code) → ExactlyWhere reason TooLong (IsTooLong words files) → ExactlyWhere reason (BadProgram Malformed) (IsMalformed words files) → ExactlyWhere reason (BadProgram NotYet) (IsNotYet words files) → ((boot : Boot) → Boots words files boot → reason ≢ ShelfFault → IsRun reason) → Serves words files reason []
+  refused reason open_still long bad later whole = record {
     run = nothing_run words files;
     replies = λ boot boots. no_replies boot;
     order = λ boot boots. no_stops boot;
@@ -139,31 +141,48 @@ module _ (words : List (List ℕ)) (files : Files) where
     too_long = long;
     malformed = bad;
     not_yet = later;
+    complete = whole;
   }
+
+  -- the bytes of a boot's program spell it
+  boot_spells : (file : List ℕ) (boot : Boot) → line words ≡ Some (One file) → Boots words files boot → (bytes : List ℕ) × HasProgram files file bytes × (program : ThinModule) × SpellsThin bytes program
+  boot_spells file boot command boots =
+      let commands : Some (One boots.names.file) ≡ Some (One file) = sym boots.names.command ∙ command in
+      let same : boots.names.file ≡ file = cc in
+      let loads : Loads (one_boot boots.bytes) boots.program = subst (λ (b : Boot). Loads b boots.program) boots.is boots.loads in
+      let here : get {R = slice_cmp nat_cmp} (insert empty program_path boots.bytes) program_path ≡ Some boots.bytes =
+          get-insert nat_list_cmp_total empty program_path boots.bytes program_path ∙ ap (λ b. cond b (Some boots.bytes) (get {R = slice_cmp nat_cmp} empty program_path)) ((eq_by_cmp_equiv nat_list_cmp_total).refl program_path) in
+      let both : Some loads.0 ≡ Some boots.bytes = sym loads.1 ∙ here in
+      let bytes : loads.0 ≡ boots.bytes = cc in
+      (boots.bytes, record { found = ap (file_named files) (sym same) ∙ boots.names.found; short = boots.short }, boots.program, subst (λ (b : List ℕ). SpellsThin b boots.program) bytes loads.2)
 
   pub serves_refused : (file : List ℕ) (reason : Reason) → line words ≡ Some (One file) → Loading files file (Err reason) → Serves words files reason []
   serves_refused file (Exited code) command cause = absurd cause
   serves_refused file Usage command cause = absurd cause
   serves_refused file ShelfFault command cause =
-      refused ShelfFault (λ code e. cc) (shelf_failed TooLong (IsTooLong words files) (λ e. cc)) (shelf_failed (BadProgram Malformed) (IsMalformed words files) (λ e. cc)) (shelf_failed (BadProgram NotYet) (IsNotYet words files) (λ e. cc))
+      refused ShelfFault (λ code e. cc) (shelf_failed TooLong (IsTooLong words files) (λ e. cc)) (shelf_failed (BadProgram Malformed) (IsMalformed words files) (λ e. cc)) (shelf_failed (BadProgram NotYet) (IsNotYet words files) (λ e. cc)) (λ boot boots sound. absurd (sound refl))
   serves_refused file TooLong command cause =
       refused TooLong (λ code e. cc)
         (just TooLong (IsTooLong words files) (cause.0, record { file = file; command = command; found = cause.1 }, cause.2))
         (neither TooLong (BadProgram Malformed) (IsMalformed words files) (λ e. cc) (too_long_malformed words files file command cause.0 cause.1 cause.2))
         (neither TooLong (BadProgram NotYet) (IsNotYet words files) (λ e. cc) (too_long_not_yet words files file command cause.0 cause.1 cause.2))
+        (λ boot boots sound. (let s = boot_spells file boot command boots in absurd (short_enough words files file command s.0 s.1 (cause.0, record { file = file; command = command; found = cause.1 }, cause.2))))
   serves_refused file (BadProgram Malformed) command cause =
       refused (BadProgram Malformed) (λ code e. cc)
         (neither (BadProgram Malformed) TooLong (IsTooLong words files) (λ e. cc) (short_enough words files file command cause.0 cause.1))
         (just (BadProgram Malformed) (IsMalformed words files) (cause.0, record { file = file; command = command; found = cause.1.found }, cause.1.short, cause.2))
         (neither (BadProgram Malformed) (BadProgram NotYet) (IsNotYet words files) (λ e. cc) (malformed_not_yet words files file command cause.0 cause.1.found cause.2))
+        (λ boot boots sound. (let s = boot_spells file boot command boots in absurd (begins_not_malformed words files file command s.0 s.1.found (begins s.0 s.2 s.3) (cause.0, record { file = file; command = command; found = cause.1.found }, cause.1.short, cause.2))))
   serves_refused file (BadProgram NotYet) command cause =
       refused (BadProgram NotYet) (λ code e. cc)
         (neither (BadProgram NotYet) TooLong (IsTooLong words files) (λ e. cc) (short_enough words files file command cause.0 cause.1))
         (neither (BadProgram NotYet) (BadProgram Malformed) (IsMalformed words files) (λ e. cc) (begins_not_malformed words files file command cause.0 cause.1.found cause.2))
         (just (BadProgram NotYet) (IsNotYet words files) (cause.0, record { file = file; command = command; found = cause.1.found }, cause.1.short, cause.2, cause.3))
+        (λ boot boots sound. (let s = boot_spells file boot command boots in absurd (spelled_not_yet words files file command s.0 s.2 s.1.found s.3 (cause.0, record { file = file; command = command; found = cause.1.found }, cause.1.short, cause.2, cause.3))))
   serves_refused file (BadProgram NoMemory) command cause = absurd cause
+  serves_refused file WriteFault command cause = absurd cause
   serves_refused file Memory command cause =
-      refused Memory (λ code e. cc) (no_memory TooLong (IsTooLong words files) (λ e. cc)) (no_memory (BadProgram Malformed) (IsMalformed words files) (λ e. cc)) (no_memory (BadProgram NotYet) (IsNotYet words files) (λ e. cc))
+      refused Memory (λ code e. cc) (no_memory TooLong (IsTooLong words files) (λ e. cc)) (no_memory (BadProgram Malformed) (IsMalformed words files) (λ e. cc)) (no_memory (BadProgram NotYet) (IsNotYet words files) (λ e. cc)) (λ boot boots sound. inr refl)
 
   -- the boot of a file that spells the program begins it
   boot_begins : (file : List ℕ) (program : ThinModule) (bytes : List ℕ) → SpellsThin bytes program → Begins (one_boot bytes) program
@@ -195,6 +214,10 @@ module _ (words : List (List ℕ)) (files : Files) where
   exited_why (ExitedWhy c) code e = (let same : c ≡ code = cc in ap ExitedWhy same)
   exited_why MemoryWhy code e = cc
 
+  why_run : (why : Why) → IsRun (reason_of why)
+  why_run (ExitedWhy code) = inl (code, refl)
+  why_run MemoryWhy = inr refl
+
   pub serves_run : (file : List ℕ) (program : ThinModule) (why : Why) (entries : List Entry) → line words ≡ Some (One file) → Loading files file (Ok program) → Ran program why entries → Serves words files (reason_of why) entries
   serves_run file program why entries command cause ran =
       let bytes : List ℕ = cause.0 in
@@ -212,6 +235,7 @@ module _ (words : List (List ℕ)) (files : Files) where
         too_long = ran_exactly why TooLong (IsTooLong words files) (λ code e. cc) (λ e. cc) (short_enough words files file command bytes has);
         malformed = ran_exactly why (BadProgram Malformed) (IsMalformed words files) (λ code e. cc) (λ e. cc) (begins_not_malformed words files file command bytes has.found (begins bytes program spelled));
         not_yet = ran_exactly why (BadProgram NotYet) (IsNotYet words files) (λ code e. cc) (λ e. cc) (spelled_not_yet words files file command bytes program has.found spelled);
+        complete = λ boot boots sound. why_run why;
       }
 
 -- a fault while a program is loaded tells of no command that isn't one
@@ -221,6 +245,7 @@ load_fault_usage Usage is e = is
 load_fault_usage ShelfFault is e = cc
 load_fault_usage TooLong is e = cc
 load_fault_usage (BadProgram fault) is e = cc
+load_fault_usage WriteFault is e = is
 load_fault_usage Memory is e = cc
 
 pub load_fault_memory : (reason : Reason) → IsLoadFault reason → reason ≢ BadProgram NoMemory
@@ -231,4 +256,31 @@ load_fault_memory TooLong is e = cc
 load_fault_memory (BadProgram Malformed) is e = cc
 load_fault_memory (BadProgram NotYet) is e = cc
 load_fault_memory (BadProgram NoMemory) is e = is
+load_fault_memory WriteFault is e = is
 load_fault_memory Memory is e = cc
+
+pub load_fault_write : (reason : Reason) → IsLoadFault reason → reason ≢ WriteFault
+load_fault_write (Exited code) is e = is
+load_fault_write Usage is e = is
+load_fault_write ShelfFault is e = cc
+load_fault_write TooLong is e = cc
+load_fault_write (BadProgram fault) is e = cc
+load_fault_write WriteFault is e = is
+load_fault_write Memory is e = cc
+
+-- ---- the reason that is told at the end
+
+-- it is the one before, or a sink's fault
+pub comes_unwritten : (before told expected : Reason) (cause : Type 0) → ((told ≡ before) ⊎ (told ≡ WriteFault)) → expected ≢ WriteFault → (before ≡ expected) ↔ cause → ComesUnwritten told expected cause
+comes_unwritten before told expected cause either other exact =
+    elim either [
+      | inl same ↦ ((λ e. exact.0 (sym same ∙ e)), (λ c sound. same ∙ exact.1 c))
+      | inr fault ↦ ((λ e. absurd (other (sym e ∙ fault))), (λ c sound. absurd (sound fault)))
+    ]
+
+pub run_told : (before told : Reason) → ((told ≡ before) ⊎ (told ≡ WriteFault)) → told ≢ WriteFault → IsRun before → IsRun told
+run_told before told either sound is =
+    elim either [
+      | inl same ↦ subst IsRun (sym same) is
+      | inr fault ↦ absurd (sound fault)
+    ]

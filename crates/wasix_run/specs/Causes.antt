@@ -4,7 +4,7 @@ use Rattle.wx_types.specs.Files.{Files}
 use Rattle.wasm_decode.specs.ThinModule.{ThinModule}
 use Rattle.wasm_decode.specs.ThinGrammar.{SpellsThin, preamble}
 use Rattle.wasix_run.specs.declared.reason.Reason.{Reason}
-use Rattle.wasix_run.specs.declared.reason.Reason.TheVariants.{Exited, Usage, ShelfFault, TooLong, BadProgram, Memory}
+use Rattle.wasix_run.specs.declared.reason.Reason.TheVariants.{Exited, Usage, ShelfFault, TooLong, BadProgram, WriteFault, Memory}
 use Rattle.wasix_run.specs.Outside.{Names, program_limit}
 
 -- the named file is longer than a program may be
@@ -24,6 +24,16 @@ IsNotYet words files =
 abbrev pub ExactlyWhere : Reason → Reason → Type 0 → Type 0
 ExactlyWhere reason expected cause = (reason ≡ expected → cause) × (cause → reason ≢ ShelfFault → reason ≢ Memory → reason ≡ expected)
 
+-- This reason comes only where it has this cause, and where the cause holds no other reason comes but that an object of the outside failed or
+-- memory ran out.
+abbrev pub ComesWhere : Reason → Reason → Type 0 → Type 0
+ComesWhere reason expected cause =
+    (reason ≡ expected → cause) × (cause → reason ≢ ShelfFault → reason ≢ WriteFault → reason ≢ Memory → reason ≡ expected)
+
+-- the same, where only a sink's failure comes between
+abbrev pub ComesUnwritten : Reason → Reason → Type 0 → Type 0
+ComesUnwritten reason expected cause = (reason ≡ expected → cause) × (cause → reason ≢ WriteFault → reason ≡ expected)
+
 -- a reason before any run was begun
 abbrev pub IsRefusal : Reason → Type 0
 IsRefusal (Exited code) = ⊥
@@ -31,4 +41,5 @@ IsRefusal Usage = Unit {0}
 IsRefusal ShelfFault = Unit {0}
 IsRefusal TooLong = Unit {0}
 IsRefusal (BadProgram fault) = Unit {0}
+IsRefusal WriteFault = ⊥
 IsRefusal Memory = ⊥

@@ -4,3 +4,5 @@ pub mod Outside
 pub mod Causes
 pub mod Loading
 pub mod Serves
+pub mod Printed
+pub mod Texts

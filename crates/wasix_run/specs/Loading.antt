@@ -7,7 +7,7 @@ use Rattle.wasm_decode.specs.ThinGrammar.{SpellsThin, preamble}
 use Rattle.wasm_decode.specs.declared.fault.ThinFault.{ThinFault}
 use Rattle.wasm_decode.specs.declared.fault.ThinFault.TheVariants.{Malformed, NotYet, Memory as NoMemory}
 use Rattle.wasix_run.specs.declared.reason.Reason.{Reason}
-use Rattle.wasix_run.specs.declared.reason.Reason.TheVariants.{Exited, Usage, ShelfFault, TooLong, BadProgram, Memory}
+use Rattle.wasix_run.specs.declared.reason.Reason.TheVariants.{Exited, Usage, ShelfFault, TooLong, BadProgram, WriteFault, Memory}
 use Rattle.wasix_run.specs.Outside.{program_limit}
 
 -- the name has these bytes, within the limit of a program
@@ -26,6 +26,7 @@ Loading files name (Err (BadProgram Malformed)) = (bytes : List ℕ) × HasProgr
 Loading files name (Err (BadProgram NotYet)) =
     (bytes : List ℕ) × HasProgram files name bytes × (take 8 bytes ≡ preamble) × ((program : ThinModule) → SpellsThin bytes program → ⊥)
 Loading files name (Err (BadProgram NoMemory)) = ⊥
+Loading files name (Err WriteFault) = ⊥
 Loading files name (Err Memory) = Unit {0}
 
 -- what may go wrong while a program is loaded
@@ -37,6 +38,7 @@ IsLoadFault TooLong = Unit {0}
 IsLoadFault (BadProgram Malformed) = Unit {0}
 IsLoadFault (BadProgram NotYet) = Unit {0}
 IsLoadFault (BadProgram NoMemory) = ⊥
+IsLoadFault WriteFault = ⊥
 IsLoadFault Memory = Unit {0}
 
 -- what a reason says of the shelf's count before and after

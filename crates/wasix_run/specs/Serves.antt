@@ -1,5 +1,5 @@
 -- What the answer to a command means, where the shelf tells its files.
-use Rattle.std.specs.Prelude.{◌≡◌, ◌↔◌, ℕ, List}
+use Rattle.std.specs.Prelude.{◌≡◌, ◌≢◌, ◌⊎◌, ◌↔◌, ℕ, List}
 use Rattle.wx_types.specs.Files.{Files}
 use Rattle.wx_types.specs.declared.entries.Entry.{Entry}
 use Rattle.wasm_decode.specs.declared.fault.ThinFault.TheVariants.{Malformed, NotYet}
@@ -11,7 +11,7 @@ use Rattle.runner.specs.Run.{Run, EachReply, InOrder, EndsAs}
 use Rattle.wasm_decode.specs.ThinModule.{ThinModule}
 use Rattle.runner.specs.OneProcess.{Begins}
 use Rattle.wasix_run.specs.declared.reason.Reason.{Reason}
-use Rattle.wasix_run.specs.declared.reason.Reason.TheVariants.{Exited, TooLong, BadProgram, Memory}
+use Rattle.wasix_run.specs.declared.reason.Reason.TheVariants.{Exited, ShelfFault, TooLong, BadProgram, Memory}
 use Rattle.wasix_run.specs.Outside.{Boots, RunEnds}
 use Rattle.wasix_run.specs.Causes.{ExactlyWhere, IsTooLong, IsMalformed, IsNotYet}
 
@@ -19,6 +19,10 @@ use Rattle.wasix_run.specs.Causes.{ExactlyWhere, IsTooLong, IsMalformed, IsNotYe
 abbrev pub reason_of : Why → Reason
 reason_of (ExitedWhy code) = Exited code
 reason_of MemoryWhy = Memory
+
+-- a run that went to its end, or for which memory ran out
+abbrev pub IsRun : Reason → Type 0
+IsRun reason = ((code : ℕ) × (reason ≡ Exited code)) ⊎ (reason ≡ Memory)
 
 pub record Serves (words : List (List ℕ)) (files : Files) (reason : Reason) (entries : List Entry) : Type 0 where
   pub run : (boot : Boot) → Boots words files boot → Run boot entries
@@ -28,10 +32,5 @@ pub record Serves (words : List (List ℕ)) (files : Files) (reason : Reason) (e
   pub too_long : ExactlyWhere reason TooLong (IsTooLong words files)
   pub malformed : ExactlyWhere reason (BadProgram Malformed) (IsMalformed words files)
   pub not_yet : ExactlyWhere reason (BadProgram NotYet) (IsNotYet words files)
-
--- what the run of a program is, from each boot of it
-pub record Ran (program : ThinModule) (why : Why) (entries : List Entry) : Type 0 where
-  pub run : (boot : Boot) → Begins boot program → Run boot entries
-  pub replies : (boot : Boot) → Begins boot program → EachReply boot entries
-  pub order : (boot : Boot) → Begins boot program → InOrder boot entries
-  pub exited : (boot : Boot) (code : ℕ) → Begins boot program → (why ≡ ExitedWhy code) ↔ EndsAs boot entries (ExitedEnd code)
+  -- where the command's program loads and the shelf didn't fail, it ran
+  pub complete : (boot : Boot) → Boots words files boot → reason ≢ ShelfFault → IsRun reason

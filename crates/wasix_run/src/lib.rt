@@ -4,7 +4,9 @@
 mod file_shelf;
 mod line;
 mod load;
+mod print;
 mod reason;
+mod report;
 mod serial;
 mod streams;
 

@@ -1,6 +1,7 @@
-// Why a top call ended, and the exit status that tells it.
+// Why a top call ended, the exit status that tells it, and its text.
 ghost use Rattle.std.specs.Prelude.{◌≡◌};
 ghost use Rattle.wasix_run.specs.Status.{status_of};
+ghost use Rattle.wasix_run.specs.Texts.{text_of};
 
 use wasm_decode::ThinFault;
 
@@ -17,6 +18,8 @@ pub enum Reason {
     TooLong,
     /// The named file is no program that can be run. The fault is never `Memory`. Exit status 126.
     BadProgram(ThinFault),
+    /// A sink failed to take what the run printed or the text of the reason. Exit status 74.
+    WriteFault,
     /// Want of memory. Exit status 71.
     Memory,
 }
@@ -31,7 +34,23 @@ impl Reason {
             Reason::Usage => 64,
             Reason::ShelfFault | Reason::TooLong => 66,
             Reason::BadProgram(_) => 126,
+            Reason::WriteFault => 74,
             Reason::Memory => 71,
+        }
+    }
+
+    /// The line that tells the reason on the error stream; empty where there is none.
+    pub fn text(&self) -> &'static str
+        ensures { result.now ≡ text_of self.now }
+    {
+        match self {
+            Reason::Exited(_) | Reason::WriteFault => "",
+            Reason::Usage => "usage: wasix one|run|asm|pack|kit|gen|trace\n",
+            Reason::ShelfFault => "wasix: file fault\n",
+            Reason::TooLong => "wasix: file too long\n",
+            Reason::BadProgram(ThinFault::NotYet) => "wasix: not built yet\n",
+            Reason::BadProgram(_) => "wasix: bad program\n",
+            Reason::Memory => "wasix: out of memory\n",
         }
     }
 }

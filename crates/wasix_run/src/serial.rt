@@ -1,19 +1,24 @@
 // The top call that runs everything on one thread, and returns.
-ghost use Rattle.std.specs.Prelude.{◌≡◌, ◌≢◌, ◌<◌, ◌≤◌, ◌↔◌, ◌⊎◌, ℕ, [], map, string_bytes, Some, None};
+ghost use Rattle.std.specs.Prelude.{◌≡◌, ◌≢◌, ◌<◌, ◌≤◌, ◌↔◌, ◌⊎◌, ◌++◌, ℕ, [], map, string_bytes, Some, None};
 ghost use Rattle.wx_types.specs.Files.{Files};
-ghost use Rattle.wx_types.specs.Outside.{Rose};
+ghost use Rattle.wx_types.specs.Outside.{Rose, followed_by, GrewByFront};
+ghost use Rattle.wasix_run.specs.Printed.{printed};
+ghost use Rattle.wasix_run.specs.Texts.{text_of};
 ghost use Rattle.runner.specs.Kernel.{Exited};
 ghost use Rattle.runner.specs.Boot.{Boot};
 ghost use Rattle.runner.specs.Run.{Run, EachReply, InOrder};
 ghost use Rattle.wasix_run.specs.Line.{line};
 ghost use Rattle.wasix_run.specs.Status.{status_of};
 ghost use Rattle.wasix_run.specs.Outside.{Boots, RunEnds};
-ghost use Rattle.wasix_run.specs.Serves.{Serves, Ran, reason_of};
-ghost use Rattle.wasix_run.specs.Causes.{ExactlyWhere, IsTooLong, IsMalformed, IsNotYet, IsRefusal};
+ghost use Rattle.wasix_run.specs.Serves.{Serves, IsRun, reason_of};
+ghost use Rattle.runner.specs.Ran.{Ran};
+ghost use Rattle.wasix_run.specs.Causes.{ComesWhere, ComesUnwritten, IsTooLong, IsMalformed, IsNotYet, IsRefusal};
 
 use crate::line::file_of;
 use crate::load::load;
+use crate::print::Stream;
 use crate::reason::Reason;
+use crate::report::report;
 use runner::journal::Journal;
 use runner::one::{Finished, Why, run_one};
 use std::alloc::Global;
@@ -38,6 +43,8 @@ fn make_ended<I, O, E>(reason: Reason, journal: Journal, input: I, out: O, err: 
     ensures reason { result.reason ≡ reason }
     ensures status { result.status ≡ status_of reason }
     ensures journal { result.journal ≡ journal }
+    ensures out { result.out ≡ out }
+    ensures err { result.err ≡ err }
 {
     Ended {
         status: reason.status(),
@@ -96,6 +103,7 @@ fn serve<H: Shelf>(alloc: Global, words: &[String], shelf: &mut H) -> Answer
     ensures shelf_rose { H.faults shelf.old < H.faults shelf.new → (result.reason ≡ Reason.ShelfFault) ⊎ (result.reason ≡ Reason.Memory) }
     ensures shelf_never_falls { H.faults shelf.old ≤ H.faults shelf.new }
     ensures no_other_fault { result.reason ≢ Reason.BadProgram ThinFault.Memory }
+    ensures unwritten { result.reason ≢ Reason.WriteFault }
     ensures unbegun { IsRefusal result.reason → result.journal ≡ [] }
 {
     let Some(file) = file_of(words) else {
@@ -110,7 +118,8 @@ fn serve<H: Shelf>(alloc: Global, words: &[String], shelf: &mut H) -> Answer
 /// Runs the command that the words are, and returns.
 ///
 /// `one FILE` runs the program in FILE as process 1. The refusals are tested in the order of the words, the shelf's
-/// read, the length of the file and the program; where one of them comes no run is begun and the journal is empty.
+/// read, the length of the file and the program; where one of them comes no run is begun and the journal is empty. What the run
+/// printed is written from the history: output first, then errors, also where the output failed, and then the text of the reason.
 pub fn wasix_serial<H: Shelf, I: Source, O: Sink, E: Sink>(
     alloc: Global,
     words: &[String],
@@ -127,19 +136,39 @@ pub fn wasix_serial<H: Shelf, I: Source, O: Sink, E: Sink>(
     ensures order { (files : Files) (boot : Boot) → H.held shelf.old ≡ Some files → Boots (map string_bytes words.now) files boot → InOrder boot result.journal }
     ensures status { result.status ≡ status_of result.reason }
 
-    // It exited exactly where the run ended so.
-    ensures exited { (files : Files) (code : ℕ) → H.held shelf.old ≡ Some files → (result.reason ≡ Reason.Exited code) ↔ RunEnds (map string_bytes words.now) files result.journal (Exited code) }
-    ensures usage { (result.reason ≡ Reason.Usage) ↔ (line (map string_bytes words.now) ≡ None) }
+    // A sink that didn't fail took all that the history prints to it, and the other a front of that.
+    ensures output { (Rose (O.faults out) (O.faults result.out) → ⊥) → O.taken result.out ≡ followed_by (O.taken out) (printed Stream.Output result.journal) }
+    ensures output_front { GrewByFront (O.taken out) (O.taken result.out) (printed Stream.Output result.journal) }
+    // Where no sink failed, the text of the reason stands behind the errors.
+    ensures errors { (Rose (O.faults out) (O.faults result.out) → ⊥) → (Rose (E.faults err) (E.faults result.err) → ⊥) → E.taken result.err ≡ followed_by (E.taken err) (printed Stream.Errors result.journal ++ text_of result.reason) }
+    ensures errors_but_text { (Rose (E.faults err) (E.faults result.err) → ⊥) → (reason : Reason) × ((E.taken result.err ≡ followed_by (E.taken err) (printed Stream.Errors result.journal)) ⊎ (E.taken result.err ≡ followed_by (E.taken err) (printed Stream.Errors result.journal ++ text_of reason))) }
+    ensures errors_front { (reason : Reason) × GrewByFront (E.taken err) (E.taken result.err) (printed Stream.Errors result.journal ++ text_of reason) }
+
+    // It exited exactly where the run ended so and no sink failed.
+    ensures exited { (files : Files) (code : ℕ) → H.held shelf.old ≡ Some files → ComesUnwritten result.reason (Reason.Exited code) (RunEnds (map string_bytes words.now) files result.journal (Exited code)) }
+    ensures usage { ComesUnwritten result.reason Reason.Usage (line (map string_bytes words.now) ≡ None) }
     ensures shelf_fault { result.reason ≡ Reason.ShelfFault → Rose (H.faults shelf.old) (H.faults shelf.new) }
-    ensures shelf_rose { H.faults shelf.old < H.faults shelf.new → (result.reason ≡ Reason.ShelfFault) ⊎ (result.reason ≡ Reason.Memory) }
+    ensures shelf_rose { H.faults shelf.old < H.faults shelf.new → (result.reason ≡ Reason.ShelfFault) ⊎ (result.reason ≡ Reason.WriteFault) ⊎ (result.reason ≡ Reason.Memory) }
     ensures shelf_never_falls { H.faults shelf.old ≤ H.faults shelf.new }
-    ensures too_long { (files : Files) → H.held shelf.old ≡ Some files → ExactlyWhere result.reason Reason.TooLong (IsTooLong (map string_bytes words.now) files) }
-    ensures malformed { (files : Files) → H.held shelf.old ≡ Some files → ExactlyWhere result.reason (Reason.BadProgram ThinFault.Malformed) (IsMalformed (map string_bytes words.now) files) }
-    ensures not_yet { (files : Files) → H.held shelf.old ≡ Some files → ExactlyWhere result.reason (Reason.BadProgram ThinFault.NotYet) (IsNotYet (map string_bytes words.now) files) }
+    ensures too_long { (files : Files) → H.held shelf.old ≡ Some files → ComesWhere result.reason Reason.TooLong (IsTooLong (map string_bytes words.now) files) }
+    ensures malformed { (files : Files) → H.held shelf.old ≡ Some files → ComesWhere result.reason (Reason.BadProgram ThinFault.Malformed) (IsMalformed (map string_bytes words.now) files) }
+    ensures not_yet { (files : Files) → H.held shelf.old ≡ Some files → ComesWhere result.reason (Reason.BadProgram ThinFault.NotYet) (IsNotYet (map string_bytes words.now) files) }
     ensures no_other_fault { result.reason ≢ Reason.BadProgram ThinFault.Memory }
+    ensures write_fault { result.reason ≡ Reason.WriteFault → Rose (O.faults out) (O.faults result.out) ⊎ Rose (E.faults err) (E.faults result.err) }
+    ensures output_rose { O.faults out < O.faults result.out → (result.reason ≡ Reason.WriteFault) ⊎ (result.reason ≡ Reason.Memory) }
+    ensures errors_rose { E.faults err < E.faults result.err → (result.reason ≡ Reason.WriteFault) ⊎ (result.reason ≡ Reason.Memory) }
+    ensures output_never_falls { O.faults out ≤ O.faults result.out }
+    ensures errors_never_falls { E.faults err ≤ E.faults result.err }
     // Where no run was begun, the history is empty.
     ensures unbegun { IsRefusal result.reason → result.journal ≡ [] }
+    // Where the command's program loads and nothing failed, it ran to its end, unless memory ran out.
+    ensures complete { (files : Files) (boot : Boot) → H.held shelf.old ≡ Some files → Boots (map string_bytes words.now) files boot
+        → (Rose (H.faults shelf.old) (H.faults shelf.new) → ⊥) → (Rose (O.faults out) (O.faults result.out) → ⊥) → (Rose (E.faults err) (E.faults result.err) → ⊥)
+        → IsRun result.reason }
 {
+    let mut out = out;
+    let mut err = err;
     let Answer { reason, journal } = serve(alloc, words, shelf);
+    let reason = report(reason, &journal, &mut out, &mut err);
     make_ended(reason, journal, input, out, err)
 }
