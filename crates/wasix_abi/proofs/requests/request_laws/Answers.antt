@@ -1,4 +1,4 @@
-use Rattle.std.proofs.Common.{◌≡◌, ◌==◌, true, false, refl, inl, arith}
+use Rattle.std.proofs.Common.{arith}
 use Rattle.std.specs.List.{slice_index}
 use Rattle.wasix_abi.specs.Requests.{nine_words}
 use Rattle.wasix_abi.proofs.Laws.{refusal_of, good_list, at_most}
