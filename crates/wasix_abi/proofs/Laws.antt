@@ -1,11 +1,11 @@
 -- What holds of each request of a write.
-use Rattle.std.proofs.Common.{◌≡◌, ◌⊎◌, ℕ, Bool, true, false, cond, ◌&&◌, ◌==◌, ◌+◌, ◌*◌, ◌<◌, ◌≤◌, min, nat_le, List, [], ◌∷◌, ◌++◌, length, refl, lit≤, inl, inr, arith, length-append}
-use Rattle.std.proofs.lemmas.List.{length-take}
+use Rattle.std.proofs.Common.{◌≡◌, ◌⊎◌, ℕ, Bool, true, false, cond, ◌&&◌, ◌==◌, ◌+◌, ◌*◌, ◌≤◌, nat_le, List, [], ◌∷◌, length, refl, lit≤, inl, inr, arith, length-append}
 use Rattle.std.proofs.lemmas.List.Sums.{sum_by-cons}
 use Rattle.std.proofs.lemmas.Grind.{common_steps}
+use Rattle.std.specs.List.{slice_index}
 use Rattle.linear_memory.specs.LinearMemory.{range_of}
 use Rattle.wasix_abi.specs.Buffers.{Buffer, buffers_at, is_within, all_within, total_len, gathered}
-use Rattle.wasix_abi.specs.Requests.{list_refusal}
+use Rattle.wasix_abi.specs.Requests.{nine_words, list_refusal, WritesAtMost}
 
 -- the error number, by whether all lies within the memory and whether the list is short enough
 abbrev number_by : Bool → Bool → ℕ
@@ -55,3 +55,10 @@ pub length-one : (memory : List ℕ) (list n count : ℕ) → length (cond (list
 length-one memory list n count =
     length-if (list_refusal memory list n count == 0) (gathered memory (buffers_at memory list n))
     (λ test. let good : list_refusal memory list n count ≡ 0 = grind (arith, test) in omega (arith, length-gathered memory (buffers_at memory list n), (good_list memory list n count good).1))
+
+-- no request has more
+pub at_most : WritesAtMost
+at_most memory arguments call =
+    let words = nine_words arguments in
+    let most = length-one memory (slice_index words 1) (slice_index words 2) (slice_index words 3) in
+    grind (arith, most)

@@ -1,8 +1,8 @@
 -- A list of buffers, one entry after the other.
-use Rattle.std.proofs.Common.{◌≡◌, ℕ, suc, Bool, true, false, ◌+◌, ◌-◌, ◌*◌, ◌<◌, ◌≤◌, nat_le, List, [], ◌∷◌, ◌++◌, ◌&&◌, length, refl, ap, sym, ◌∙◌, arith}
+use Rattle.std.proofs.Common.{◌≡◌, ℕ, suc, true, false, ◌+◌, ◌-◌, ◌*◌, ◌<◌, ◌≤◌, List, [], ◌∷◌, ◌++◌, length, refl, ap, sym, ◌∙◌, arith}
 use Rattle.std.proofs.lemmas.List.Sums.{sum_by-cons}
 use Rattle.linear_memory.specs.LinearMemory.{range_of}
-use Rattle.wasix_abi.specs.Buffers.{Buffer, word_at, buffer_at, buffers_at, is_within, all_within, total_len, gathered}
+use Rattle.wasix_abi.specs.Buffers.{Buffer, word_at, buffer_at, buffers_at, all_within, total_len, gathered}
 
 -- the buffers of a list of n entries from entry i on
 unfoldable pub left_from : List ℕ → ℕ → ℕ → ℕ → List Buffer

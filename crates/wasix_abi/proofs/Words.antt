@@ -1,6 +1,6 @@
 -- The words of a request, one argument after the other.
-use Rattle.std.proofs.Common.{◌≡◌, ℕ, suc, zero, ◌+◌, ◌-◌, ◌<◌, ◌≤◌, List, [], ◌∷◌, ◌++◌, length, take, set, get_or, replicate, refl, ap, sym, ◌∙◌, arith, append_assoc}
-use Rattle.std.proofs.Math.Seq.{take-suc, take-append-add, set-append_seam, length_front, take-length}
+use Rattle.std.proofs.Common.{◌≡◌, ℕ, suc, ◌+◌, ◌-◌, ◌<◌, ◌≤◌, List, ◌++◌, length, take, set, get_or, replicate, ap, sym, ◌∙◌, arith}
+use Rattle.std.proofs.Math.Seq.{take-append-add, set-append_seam, take-length}
 use Rattle.std.proofs.lemmas.List.{take-replicate}
 use Rattle.std.proofs.lemmas.Grind.{common_steps}
 use Rattle.wasix_abi.specs.Requests.{nine_words}

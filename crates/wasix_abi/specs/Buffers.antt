@@ -1,6 +1,6 @@
 -- Lists of buffers in a memory (WASI preview 1, `ciovec_array`): an entry has eight bytes, four for
 -- the buffer's address and four for its length, each number with its lowest byte first.
-use Rattle.std.specs.Prelude.{ℕ, zero, suc, Bool, ◌+◌, ◌*◌, nat_le, List, [], ◌∷◌, length, sum_by}
+use Rattle.std.specs.Prelude.{ℕ, zero, suc, Bool, ◌+◌, nat_le, List, [], ◌∷◌, length, sum_by}
 use Rattle.std.specs.List.{list_all, flat_map}
 use Rattle.std.specs.Int.{w32, from_le_bytes}
 use Rattle.linear_memory.specs.LinearMemory.{range_of}

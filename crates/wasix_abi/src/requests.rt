@@ -35,6 +35,7 @@ fn nine_words(arguments: &[u32]) -> [u64; 9]
 #[tactic(auto, unfolding(crate::specs::Requests::list_refusal))]
 fn write_len(memory: &[u8], list: u32, n: u32, count: u32) -> Result<usize, Errno>
     requires { length memory.now ≤ 16777216 }
+    ensures len { IfOk result (λ t. t ≡ total_len (buffers_at memory.now list n)) }
     ensures good { IfOk result (λ _. list_refusal memory.now list n count ≡ 0) }
     ensures within { IfOk result (λ _. list + 8 * n ≤ length memory.now) }
     ensures buffers_within { IfOk result (λ _. all_within memory.now (buffers_at memory.now list n) ≡ true) }
@@ -91,7 +92,8 @@ pub fn request_of(
     arguments: &[u32],
 ) -> Result<Request, AllocError>
     requires { argument_count call ≡ Some (length arguments.now) }
-    ensures { IfOk result (λ r. r ≡ request_of memory.now.bytes call arguments.now) }
+    ensures value { IfOk result (λ r. r ≡ request_of memory.now.bytes call arguments.now) }
+    ensures most { IfOk result (λ r. length r.one ≤ 16777216) }
 {
     if call == FD_WRITE {
         return write_request(alloc, memory, arguments);

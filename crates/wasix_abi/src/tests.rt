@@ -92,7 +92,7 @@ fn writes_name_their_buffers(rt: HostRuntime) -> Result<(), Fail> {
         ];
         assert!(rt; request.words == words);
         if refused == 0 {
-            let written = (bytes.len() as u32).to_le_bytes();
+            let written = u32::try_from(bytes.len()).unwrap_or(u32::MAX).to_le_bytes();
             let held = memory.bytes(alloc, count, 4)?;
             assert_eq!(rt; held.as_slice(), written.as_slice());
         }

@@ -1,7 +1,6 @@
-use Rattle.std.proofs.Common.{rules, ◌≡◌, ◌+◌, ◌*◌, ◌<◌, ◌≤◌, ◌++◌, length, take, drop, [], refl, sym, ◌∙◌, arith, append_assoc}
+use Rattle.std.proofs.Common.{rules, ◌≡◌, ◌+◌, ◌≤◌, ◌++◌, length, take, drop, [], refl, sym, ◌∙◌, arith}
 use Rattle.std.proofs.lemmas.Grind.{common_steps}
-use Rattle.std.proofs.lemmas.List.{append-nil}
-use Rattle.wasix_abi.specs.Buffers.{word_at, all_within, gathered}
+use Rattle.wasix_abi.specs.Buffers.{gathered}
 use Rattle.wasix_abi.proofs.Steps.{left_from, left_from-start, left_from-end, within_next, entry_within, gathered_next}
 use Rattle.wasix_abi.proofs.buffers.gathered.Goals as goal
 

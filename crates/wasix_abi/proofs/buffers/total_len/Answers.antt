@@ -1,5 +1,5 @@
-use Rattle.std.proofs.Common.{◌≡◌, ◌+◌, ◌*◌, ◌<◌, ◌≤◌, length, true, refl, ◌∙◌, arith}
-use Rattle.wasix_abi.specs.Buffers.{word_at, all_within, total_len}
+use Rattle.std.proofs.Common.{◌≡◌, true, refl, ◌∙◌, arith}
+use Rattle.wasix_abi.specs.Buffers.{all_within, total_len}
 use Rattle.wasix_abi.proofs.Steps.{left_from, left_from-start, left_from-end, within_next, not_within, total_next}
 use Rattle.wasix_abi.proofs.buffers.total_len.Goals as goal
 
