@@ -17,7 +17,7 @@ onward_more f g x y more Stuck e = cc
 
 -- n steps, and then one more
 pub after_more : (n : ℕ) (p : ThinModule) (m : LinearMemory) (t : GuestThread) (m' : LinearMemory) (t' : GuestThread) (m'' : LinearMemory) (t'' : GuestThread) → after n p m t ≡ Some (m', t') → step p m' t' ≡ Next m'' t'' → after (suc n) p m t ≡ Some (m'', t'')
-after_more zero p m t m' t' m'' t'' e s = 
+after_more zero p m t m' t' m'' t'' e s =
     let same : ◌≡◌ {A = LinearMemory × GuestThread} (m', t') (m, t) = cc in
     let here : step p m t ≡ Next m'' t'' = subst (λ x. step p x.0 x.1 ≡ Next m'' t'') same s in
     ap (onward (after 0 p)) here

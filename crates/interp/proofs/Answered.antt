@@ -61,7 +61,7 @@ dropped P (suc n) (x ∷ xs) all = dropped P n xs all.1
 height_past : (imports : List ThinImport) (rest : List ThinInstr) (i h : ℕ) → slice_get imports i ≡ Some FdWrite → 4 ≤ h → heights imports (Call i ∷ rest) h ≡ Some 0 → heights imports rest (h - 4 + 1) ≡ Some 0
 height_past imports rest i h known enough typed =
     let after : height_after_call (slice_get imports i) h ≡ Some (h - 4 + 1) =
-        ap (λ o. height_after_call o h) known ∙ ap (λ b. if b then Some (h - 4 + 1) else None) (le-leb 4 h enough) in
+    ap (λ o. height_after_call o h) known ∙ ap (λ b. if b then Some (h - 4 + 1) else None) (le-leb 4 h enough) in
     sym (ap (option_and_then (λ k. heights imports rest k)) after) ∙ typed
 
 one_more : (n : ℕ) → 1 + n ≡ suc n
@@ -89,7 +89,7 @@ answers p k m i value fits stands known small =
     let operands : reverse (take (length k.operands - 4) k.operands ++ value ∷ []) ≡ value ∷ drop 4 (reverse k.operands) = past_operands k.operands value 4 enough in
     let next : Frame = frame_answered frame 4 (value ∷ []) in
     let frames1 : frames_of p (past k value) ≡ next ∷ [] =
-        one_frame p (past k value) on ∙ (λ j. record { code = next_code p.body k.position j; operands = operands j } ∷ []) in
+    one_frame p (past k value) on ∙ (λ j. record { code = next_code p.body k.position j; operands = operands j } ∷ []) in
     let high : length (reverse k.operands) ≡ length k.operands = length-reverse k.operands in
     let typed : heights p.imports (Call i ∷ head.rest) (length (reverse k.operands)) ≡ Some 0 = subst (λ (c : List ThinInstr). heights p.imports c (length (reverse k.operands)) ≡ Some 0) head.is fits1.0.typed in
     let height : length (value ∷ drop 4 (reverse k.operands)) ≡ length (reverse k.operands) - 4 + 1 = omega (arith, length-drop 4 (reverse k.operands)) in
@@ -97,7 +97,7 @@ answers p k m i value fits stands known small =
     let high4 : 4 ≤ length (reverse k.operands) = omega arith in
     let fits2 : FitsFrame p next = record {
       typed = subst (λ (c : List ThinInstr). heights p.imports c (length (value ∷ drop 4 (reverse k.operands))) ≡ Some 0) (sym code1)
-                (ap (heights p.imports head.rest) height ∙ height_past p.imports head.rest i (length (reverse k.operands)) known high4 typed);
+          (ap (heights p.imports head.rest) height ∙ height_past p.imports head.rest i (length (reverse k.operands)) known high4 typed);
       values = (small, dropped (λ v. v < 2 ^ 32) 4 (reverse k.operands) fits1.0.values);
     } in
     record {
@@ -106,14 +106,14 @@ answers p k m i value fits stands known small =
       thread = (λ j. record { frames = (frames1 ∙ ap (λ (fs : List Frame). frames_answered fs 4 (value ∷ [])) (sym frames)) j; main = k.main });
       fits = subst (λ (fs : List Frame). AllByRecursion (FitsFrame p) fs) (sym frames1) (fits2, tt);
       left =
-        (let a : frames_left (frames_of p (past k value)) ≡ suc (length head.rest) + 0 = ap frames_left frames1 ∙ ap (λ (c : List ThinInstr). suc (length c) + 0) code1 in
-         let b : frames_left (frames_of p k) ≡ suc (suc (length head.rest)) + 0 = ap frames_left frames ∙ ap (λ (c : List ThinInstr). suc (length c) + 0) head.is in
-         omega arith);
+          (let a : frames_left (frames_of p (past k value)) ≡ suc (length head.rest) + 0 = ap frames_left frames1 ∙ ap (λ (c : List ThinInstr). suc (length c) + 0) code1 in
+          let b : frames_left (frames_of p k) ≡ suc (suc (length head.rest)) + 0 = ap frames_left frames ∙ ap (λ (c : List ThinInstr). suc (length c) + 0) head.is in
+          omega arith);
       calls =
-        (let a : frames_calls (frames_of p (past k value)) ≡ count_by is_call head.rest + 0 = ap frames_calls frames1 ∙ ap (λ (c : List ThinInstr). count_by is_call c + 0) code1 in
-         let b : frames_calls (frames_of p k) ≡ count_by is_call (Call i ∷ head.rest) + 0 = ap frames_calls frames ∙ ap (λ (c : List ThinInstr). count_by is_call c + 0) head.is in
-         let one : count_by is_call (Call i ∷ head.rest) ≡ suc (count_by is_call head.rest) = sum_by-append (λ x. cond (is_call x) 1 0) (Call i ∷ []) head.rest ∙ one_more (count_by is_call head.rest) in
-         omega arith);
+          (let a : frames_calls (frames_of p (past k value)) ≡ count_by is_call head.rest + 0 = ap frames_calls frames1 ∙ ap (λ (c : List ThinInstr). count_by is_call c + 0) code1 in
+          let b : frames_calls (frames_of p k) ≡ count_by is_call (Call i ∷ head.rest) + 0 = ap frames_calls frames ∙ ap (λ (c : List ThinInstr). count_by is_call c + 0) head.is in
+          let one : count_by is_call (Call i ∷ head.rest) ≡ suc (count_by is_call head.rest) = sum_by-append (λ x. cond (is_call x) 1 0) (Call i ∷ []) head.rest ∙ one_more (count_by is_call head.rest) in
+          omega arith);
     }
 
 -- what is kept of a thread past the call

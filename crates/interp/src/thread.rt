@@ -64,7 +64,12 @@ impl Thread {
         ensures few_calls { IfOk result (λ t. calls_left (thread_of program.now t) ≤ 15) }
     {
         let operands = Vec::with_capacity(alloc, program.body().len())?;
-        Ok(Thread { position: 0, operands, returned: false, main })
+        Ok(Thread {
+            position: 0,
+            operands,
+            returned: false,
+            main,
+        })
     }
 
     /// Whether it was started as a main thread.

@@ -41,7 +41,7 @@ stops_step pid world entry next rest leads more true same =
     let is : entry.pid ≡ pid = eqb-true entry.pid pid same in
     let there : get world.processes pid ≡ Some reply.process = subst (λ k. get world.processes k ≡ Some reply.process) is reply.there in
     let after : get next.processes pid ≡ left =
-        ap (λ (m : FinMap nat_cmp Process). get m pid) leads.processes ∙ ap (λ k. get (placed world.processes k left) pid) is ∙ get-placed_same world.processes pid left in
+    ap (λ (m : FinMap nat_cmp Process). get m pid) leads.processes ∙ ap (λ k. get (placed world.processes k left) pid) is ∙ get-placed_same world.processes pid left in
     let more1 : StopsOf world.slice left rest = subst (λ (p : Option Process). StopsOf world.slice p rest) after (subst (λ k. StopsOf k (get next.processes pid) rest) leads.slice more) in
     stops_own world.slice (get world.processes pid) entry rest reply.process reply.request reply.stopped there reply.asks reply.call more1
 stops_step pid world entry next rest leads more false other =
@@ -49,11 +49,11 @@ stops_step pid world entry next rest leads more false other =
     let left : Option Process = apply reply.stopped entry.tid reply.request entry.outcome entry.signal in
     let apart : pid ≢ entry.pid = λ e. differ entry.pid pid other (sym e) in
     let after : get next.processes pid ≡ get world.processes pid =
-        ap (λ (m : FinMap nat_cmp Process). get m pid) leads.processes ∙ get-placed_other world.processes entry.pid left pid apart in
+    ap (λ (m : FinMap nat_cmp Process). get m pid) leads.processes ∙ get-placed_other world.processes entry.pid left pid apart in
     subst (λ (p : Option Process). StopsOf world.slice p rest) after (subst (λ k. StopsOf k (get next.processes pid) rest) leads.slice more)
   where
     differ : (a b : ℕ) → nat_eq a b ≡ false → a ≢ b
-    differ a b unequal = elim (eqb_tells a b) [ | inl equal ↦ absurd (let never : ⊥ = cc in never) | inr unlike ↦ unlike.1 ]
+    differ a b unequal = elim (eqb_tells a b) [ inl equal ↦ absurd (let never : ⊥ = cc in never) | inr unlike ↦ unlike.1 ]
 
 -- the entries of one process within a run
 stops_run : (pid : ℕ) (world : World) (entries : List Entry) (last : World) → RunFrom world entries last → StopsOf world.slice (get world.processes pid) (filter (bears pid) entries)

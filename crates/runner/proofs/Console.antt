@@ -21,8 +21,10 @@ apart a b ne e = ne (ap (λ (t : ThreadId). t.1) e)
 
 abbrev e1 : FinMap thread_cmp ℕ
 e1 = insert empty (1, 0) 0
+
 abbrev e2 : FinMap thread_cmp ℕ
 e2 = insert e1 (1, 1) 1
+
 abbrev e3 : FinMap thread_cmp ℕ
 e3 = insert e2 (1, 2) 2
 
@@ -31,28 +33,37 @@ other m k v q ne = get-insert_other thread_cmp_total thread_cmp_exact m (1, k) v
 
 fd3 : get first_descriptors (1, 3) ≡ Some 3
 fd3 = get-insert_same thread_cmp_total e3 (1, 3) 3
+
 fd2 : get first_descriptors (1, 2) ≡ Some 2
 fd2 = other e3 3 3 2 (λ e. omega arith) ∙ get-insert_same thread_cmp_total e2 (1, 2) 2
+
 fd1 : get first_descriptors (1, 1) ≡ Some 1
 fd1 = other e3 3 3 1 (λ e. omega arith) ∙ other e2 2 2 1 (λ e. omega arith) ∙ get-insert_same thread_cmp_total e1 (1, 1) 1
+
 fd0 : get first_descriptors (1, 0) ≡ Some 0
 fd0 = other e3 3 3 0 (λ e. omega arith) ∙ other e2 2 2 0 (λ e. omega arith) ∙ other e1 1 1 0 (λ e. omega arith) ∙ get-insert_same thread_cmp_total empty (1, 0) 0
+
 no_fd : (fd : ℕ) → fd ≢ 0 → fd ≢ 1 → fd ≢ 2 → fd ≢ 3 → get first_descriptors (1, fd) ≡ None
 no_fd fd a b c d = other e3 3 3 fd d ∙ other e2 2 2 fd c ∙ other e1 1 1 fd b ∙ other empty 0 0 fd a ∙ get-empty thread_cmp (1, fd)
 
 abbrev input : Description
 input = record { kind = Input; read = true; write = false }
+
 abbrev output : Description
 output = record { kind = Output; read = false; write = true }
+
 abbrev errors : Description
 errors = record { kind = Error; read = false; write = true }
+
 abbrev root : Description
 root = record { kind = Dir 1; read = true; write = false }
 
 abbrev s1 : FinMap nat_cmp Description
 s1 = insert empty 0 input
+
 abbrev s2 : FinMap nat_cmp Description
 s2 = insert s1 1 output
+
 abbrev s3 : FinMap nat_cmp Description
 s3 = insert s2 2 errors
 
@@ -61,10 +72,13 @@ other_d m k v q ne = get-insert_other nat_cmp_total nat_cmp-IsAntisymmetric m k 
 
 at3 : get first_descriptions 3 ≡ Some root
 at3 = get-insert_same nat_cmp_total s3 3 root
+
 at2 : get first_descriptions 2 ≡ Some errors
 at2 = other_d s3 3 root 2 (λ e. omega arith) ∙ get-insert_same nat_cmp_total s2 2 errors
+
 at1 : get first_descriptions 1 ≡ Some output
 at1 = other_d s3 3 root 1 (λ e. omega arith) ∙ other_d s2 2 errors 1 (λ e. omega arith) ∙ get-insert_same nat_cmp_total s1 1 output
+
 at0 : get first_descriptions 0 ≡ Some input
 at0 = other_d s3 3 root 0 (λ e. omega arith) ∙ other_d s2 2 errors 0 (λ e. omega arith) ∙ other_d s1 1 output 0 (λ e. omega arith) ∙ get-insert_same nat_cmp_total empty 0 input
 
@@ -110,7 +124,11 @@ module _ (kernel : Kernel) (fds : kernel.descriptors ≡ first_descriptors) (ds 
                 | inr not_three ↦
                     over request fd None refl good.1 (unfound fd (no_fd fd not_zero.1 not_one.1 not_two.1 not_three.1))
                     ∙ ap as_reply (sym (no_tests request.refused fd request.one good.1 not_one.0 not_two.0 not_zero.0 not_three.0))
-              ] ] ] ] ]
+              ]
+            ]
+          ]
+        ]
+      ]
     where
       as_written : (n : ℕ) → slice_index request.words 0 ≡ n → request.refused ≡ 0 → as_reply (write_reply 0 n request.one) ≡ as_reply (write_reply request.refused (slice_index request.words 0) request.one)
       as_written n word good = ap as_reply (λ i. write_reply (sym good i) (sym word i) request.one)

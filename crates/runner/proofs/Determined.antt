@@ -28,7 +28,7 @@ not_later process tid slice n n' request request' stopped stopped' a b lt =
     let same : a.thread ≡ b.thread = (let h : Some a.thread ≡ Some b.thread = sym a.there ∙ b.there in cc) in
     let sum : n' ≡ n + suc (n' - n - 1) = omega arith in
     let longer : after (n + suc (n' - n - 1)) process.program process.memory a.thread ≡ Some (b.memory, b.next) =
-        ap (λ j. after j process.program process.memory a.thread) (sym sum) ∙ ap (after n' process.program process.memory) same ∙ b.steps in
+    ap (λ j. after j process.program process.memory a.thread) (sym sum) ∙ ap (after n' process.program process.memory) same ∙ b.steps in
     let spent : n ≡ min slice (fuel_left process) = no_more n (n' - n - 1) (min slice (fuel_left process)) process.program process.memory a.thread a.memory a.next (b.memory, b.next) a.steps a.ends longer in
     let within : n' ≤ min slice (fuel_left process) = b.within in
     omega arith
@@ -49,7 +49,7 @@ asked_same process tid slice n request request' stopped stopped' a b =
     let states : ◌≡◌ {A = Option State} (Some (a.memory, a.next)) (Some (b.memory, b.next)) = sym a.steps ∙ ap (after n process.program process.memory) same ∙ b.steps in
     let state : ◌≡◌ {A = State} (a.memory, a.next) (b.memory, b.next) = cc in
     let requests : Some request ≡ Some request' =
-        sym a.asks ∙ ap (λ (x : State). request_at process.program x.0 x.1 (fuel_left process - n) (step process.program x.0 x.1)) state ∙ b.asks in
+    sym a.asks ∙ ap (λ (x : State). request_at process.program x.0 x.1 (fuel_left process - n) (step process.program x.0 x.1)) state ∙ b.asks in
     (cc, a.leaves ∙ ap (λ (x : State). record process { memory = x.0; threads = insert process.threads tid x.1; used = process.used + n }) state ∙ sym b.leaves)
 
 settles_same : (ended : Option End) (k a b : Kernel) → SettlesFrom ended k a → SettlesFrom ended k b → a ≡ b
@@ -71,7 +71,7 @@ one_reply world entry a b =
     let asks : Asked b.process entry.tid world.slice entry.ran a.request a.stopped = subst (λ (p : Process). Asked p entry.tid world.slice entry.ran a.request a.stopped) same a.asks in
     let both = asked_same b.process entry.tid world.slice entry.ran a.request b.request a.stopped b.stopped asks b.asks in
     let answers : Some (record { outcome = entry.outcome; signal = entry.signal; kernel = a.answered }) ≡ Some (record { outcome = entry.outcome; signal = entry.signal; kernel = b.answered }) =
-        sym a.answers ∙ ap (answer world.kernel entry.pid entry.tid) both.0 ∙ b.answers in
+    sym a.answers ∙ ap (answer world.kernel entry.pid entry.tid) both.0 ∙ b.answers in
     record { request = both.0; stopped = both.1; answered = ap kernel_of answers }
   where
     kernel_of : Option Answer → Kernel
@@ -84,9 +84,9 @@ leads_same world entry next next' a b =
     let one = one_reply world entry a.reply b.reply in
     let settles : Settles b.reply.answered next.kernel = subst (λ (k : Kernel). Settles k next.kernel) one.answered a.settles in
     world_same next next'
-      (settles_same b.reply.answered.ended b.reply.answered next.kernel next'.kernel settles b.settles)
-      (a.processes ∙ (λ i. placed world.processes entry.pid (apply (one.stopped i) entry.tid (one.request i) entry.outcome entry.signal)) ∙ sym b.processes)
-      (a.slice ∙ sym b.slice)
+    (settles_same b.reply.answered.ended b.reply.answered next.kernel next'.kernel settles b.settles)
+    (a.processes ∙ (λ i. placed world.processes entry.pid (apply (one.stopped i) entry.tid (one.request i) entry.outcome entry.signal)) ∙ sym b.processes)
+    (a.slice ∙ sym b.slice)
 
 -- a list of entries leads to one world
 pub run_same : (world : World) (entries : List Entry) (last last' : World) → RunFrom world entries last → RunFrom world entries last' → last ≡ last'

@@ -98,11 +98,19 @@ end_leads : (world : World) (program : ThinModule) (memory : LinearMemory) (thre
 end_leads world program memory thread next ran code request at asked answers =
     let ended : Kernel = end_process (record world.kernel { time = risen world.kernel.time }) 1 1 (Exited code) in
     let reply : Replies world (end_entry ran request.call) = record {
-      process = at.process; request = request; stopped = stopped_at at.process next ran; answered = ended; there = at.there; asks = asked; call = refl; answers = answers world.kernel;
-    } in
-    (record { kernel = ended; processes = _; slice = world.slice },
-     record { running = at.running; handed = (Fresh, at.handed); reply = reply; settles = refl; processes = refl; slice = refl },
-     refl)
+      process = at.process;
+      request = request;
+      stopped = stopped_at at.process next ran;
+      answered = ended;
+      there = at.there;
+      asks = asked;
+      call = refl;
+      answers = answers world.kernel;
+    } in (
+      record { kernel = ended; processes = _; slice = world.slice },
+      record { running = at.running; handed = (Fresh, at.handed); reply = reply; settles = refl; processes = refl; slice = refl },
+      refl,
+    )
 
 -- a call of proc_exit
 pub exit_leads : (world : World) (program : ThinModule) (memory : LinearMemory) (thread next : GuestThread) (ran i code : ℕ) (args : List ℕ) → StandsAt world program memory thread
@@ -115,10 +123,10 @@ pub exit_leads : (world : World) (program : ThinModule) (memory : LinearMemory) 
     → LeadsToEnd world (end_entry ran 37) code
 exit_leads world program memory thread next ran i code args at steps within stops known same word =
     let asked = asked_slice world program memory thread next ran (request_of memory.bytes 37 args) at steps within
-          (ends_call ran default_slice i (step program memory next) (stops memory))
-          (λ left. asks_call program memory next left i ProcExit (step program memory next) (stops memory) known ∙ ap (λ (a : List ℕ). Some (request_of memory.bytes 37 a)) (sym same)) in
+    (ends_call ran default_slice i (step program memory next) (stops memory))
+    (λ left. asks_call program memory next left i ProcExit (step program memory next) (stops memory) known ∙ ap (λ (a : List ℕ). Some (request_of memory.bytes 37 a)) (sym same)) in
     subst (λ c. LeadsToEnd world (end_entry ran 37) c) word
-      (end_leads world program memory thread next ran (slice_index (nine_words args) 0) (request_of memory.bytes 37 args) at asked (λ k. refl))
+    (end_leads world program memory thread next ran (slice_index (nine_words args) 0) (request_of memory.bytes 37 args) at asked (λ k. refl))
 
 -- the return of the main thread's last frame
 pub return_leads : (world : World) (program : ThinModule) (memory : LinearMemory) (thread next : GuestThread) (ran : ℕ) → StandsAt world program memory thread
@@ -129,8 +137,8 @@ pub return_leads : (world : World) (program : ThinModule) (memory : LinearMemory
     → LeadsToEnd world (end_entry ran 4) 0
 return_leads world program memory thread next ran at steps within stops main =
     let asked = asked_slice world program memory thread next ran (request_of memory.bytes 4 (1 ∷ [])) at steps within
-          (ends_return ran default_slice (step program memory next) (stops memory))
-          (λ left. asks_return program memory next left (step program memory next) (stops memory) ∙ ap (λ b. Some (request_of memory.bytes 4 (flag b ∷ []))) main) in
+    (ends_return ran default_slice (step program memory next) (stops memory))
+    (λ left. asks_return program memory next left (step program memory next) (stops memory) ∙ ap (λ b. Some (request_of memory.bytes 4 (flag b ∷ []))) main) in
     end_leads world program memory thread next ran 0 (request_of memory.bytes 4 (1 ∷ [])) at asked (λ k. refl)
 
 -- ---- a write
@@ -154,12 +162,18 @@ write_leads world program memory thread next ran i args at steps within stops kn
     let process : Process = at.process in
     let stopped : Process = stopped_at process next ran in
     let asked : Asked process 1 world.slice ran request stopped = asked_slice world program memory thread next ran request at steps within
-          (ends_call ran default_slice i (step program memory next) (stops memory))
-          (λ n. asks_call program memory next n i FdWrite (step program memory next) (stops memory) known ∙ ap (λ (a : List ℕ). Some (request_of memory.bytes 17 a)) (sym same)) in
+    (ends_call ran default_slice i (step program memory next) (stops memory))
+    (λ n. asks_call program memory next n i FdWrite (step program memory next) (stops memory) known ∙ ap (λ (a : List ℕ). Some (request_of memory.bytes 17 a)) (sym same)) in
     let risen_kernel : Kernel = record world.kernel { time = risen world.kernel.time } in
     let kernel : Kernel = record risen_kernel { threads = insert risen_kernel.threads (1, 1) (Handed Fresh) } in
     let replies : Replies world (write_entry ran reply) = record {
-      process = process; request = request; stopped = stopped; answered = kernel; there = at.there; asks = asked; call = refl;
+      process = process;
+      request = request;
+      stopped = stopped;
+      answered = kernel;
+      there = at.there;
+      asks = asked;
+      call = refl;
       answers = write_answer risen_kernel at.descriptors at.descriptions request;
     } in
     let handed : get kernel.threads (1, 1) ≡ Some (Handed Fresh) = get-insert_same thread_cmp_total risen_kernel.threads (1, 1) (Handed Fresh) in
@@ -168,27 +182,31 @@ write_leads world program memory thread next ran i args at steps within stops kn
     let after_thread : GuestThread = answered next 4 (reply.errno ∷ []) in
     let threads : after_process.threads ≡ insert stopped.threads 1 after_thread = ap (λ (t : Option GuestThread). replied_threads stopped.threads 1 t request reply.errno) here in
     let after_here : get after_process.threads 1 ≡ Some after_thread = ap (λ (ts : FinMap nat_cmp GuestThread). get ts 1) threads ∙ get-insert_same nat_cmp_total stopped.threads 1 after_thread in
-    let short : process.used + steps_left thread ≤ 1001 = at.short in
-    (record { kernel = kernel; processes = insert world.processes 1 after_process; slice = world.slice },
-     record {
-       running = at.running; handed = (Fresh, at.handed); reply = replies;
-       settles = subst (λ (e : Option End). SettlesFrom e kernel kernel) (sym at.running) (1, 1, (Fresh, handed), refl);
-       processes = refl; slice = refl;
-     },
-     record {
-       process = after_process;
-       running = at.running;
-       handed = handed;
-       there = get-insert_same nat_cmp_total world.processes 1 after_process;
-       runs = at.runs;
-       over = ap (λ (m : LinearMemory). record m { bytes = apply_reply m.bytes request reply.errno reply.bytes }) at.over;
-       here = after_here;
-       descriptors = at.descriptors;
-       descriptions = at.descriptions;
-       slice = at.slice;
-       fuel = at.fuel;
-       short = omega arith;
-     })
+    let short : process.used + steps_left thread ≤ 1001 = at.short in (
+      record { kernel = kernel; processes = insert world.processes 1 after_process; slice = world.slice },
+      record {
+        running = at.running;
+        handed = (Fresh, at.handed);
+        reply = replies;
+        settles = subst (λ (e : Option End). SettlesFrom e kernel kernel) (sym at.running) (1, 1, (Fresh, handed), refl);
+        processes = refl;
+        slice = refl;
+      },
+      record {
+        process = after_process;
+        running = at.running;
+        handed = handed;
+        there = get-insert_same nat_cmp_total world.processes 1 after_process;
+        runs = at.runs;
+        over = ap (λ (m : LinearMemory). record m { bytes = apply_reply m.bytes request reply.errno reply.bytes }) at.over;
+        here = after_here;
+        descriptors = at.descriptors;
+        descriptions = at.descriptions;
+        slice = at.slice;
+        fuel = at.fuel;
+        short = omega arith;
+      },
+    )
 
 -- the first of some arguments is the first word
 pub first_word : (args : List ℕ) → length args ≡ 1 → slice_index (nine_words args) 0 ≡ slice_index args 0
@@ -199,6 +217,6 @@ first_word (x ∷ args) is = refl
 pub as_leads : (world : World) (program : ThinModule) (memory memory' : LinearMemory) (thread thread' : GuestThread) (entry entry' : Entry) (ended ended' : Option ℕ) → memory ≡ memory' → thread ≡ thread' → entry ≡ entry' → ended ≡ ended' → LeadsOn world program memory' thread' entry' ended' → LeadsOn world program memory thread entry ended
 as_leads world program memory memory' thread thread' entry entry' ended ended' m t e n leads =
     subst (λ (x : LinearMemory). LeadsOn world program x thread entry ended) (sym m)
-      (subst (λ (x : GuestThread). LeadsOn world program memory' x entry ended) (sym t)
-        (subst (λ (x : Entry). LeadsOn world program memory' thread' x ended) (sym e)
-          (subst (λ (x : Option ℕ). LeadsOn world program memory' thread' entry' x) (sym n) leads)))
+    (subst (λ (x : GuestThread). LeadsOn world program memory' x entry ended) (sym t)
+    (subst (λ (x : Entry). LeadsOn world program memory' thread' x ended) (sym e)
+    (subst (λ (x : Option ℕ). LeadsOn world program memory' thread' entry' x) (sym n) leads)))

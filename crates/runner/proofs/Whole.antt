@@ -72,10 +72,11 @@ ran once program why entries ended leading light told = record {
   replies = λ boot begins. (let l = leading boot begins in each_reply boot entries l.0 l.1);
   order = λ boot begins. (let l = leading boot begins in in_order once boot entries l.0 l.1);
   exited = λ boot code begins.
-    (let l = leading boot begins in
-     ((λ e. (l.0, l.1, l.2 ∙ (told code).0 e)),
-      (λ ends. (let same : ends.0 ≡ l.0 = runs_same once boot entries ends.0 l.0 ends.1 l.1 in
-                (told code).1 (sym l.2 ∙ ap (λ (w : World). w.kernel.ended) (sym same) ∙ ends.2)))));
+      (let l = leading boot begins in (
+        (λ e. (l.0, l.1, l.2 ∙ (told code).0 e)),
+        (λ ends. (let same : ends.0 ≡ l.0 = runs_same once boot entries ends.0 l.0 ends.1 l.1 in
+            (told code).1 (sym l.2 ∙ ap (λ (w : World). w.kernel.ended) (sym same) ∙ ends.2))),
+      ));
 }
 
 pub told_exited : (ended code : ℕ) → (ExitedWhy ended ≡ ExitedWhy code) ↔ (Some (Exited ended) ≡ Some (Exited code))
@@ -98,20 +99,20 @@ Turned program memory thread memory' thread' entry ended = (world : World) → S
 pub open_run : OneThin → (program : ThinModule) (memory : LinearMemory) (thread : GuestThread) (entries entries' : List Entry) → Standing program memory thread entries → weight entries ≤ weight_limit → entries' ≡ entries → Ran program MemoryWhy entries'
 open_run once program memory thread entries entries' stands light same =
     subst (λ (es : List Entry). Ran program MemoryWhy es) (sym same)
-      (ran once program MemoryWhy entries None (λ boot begins. (let s = stands boot begins in (s.0, s.1, s.2.running))) light told_memory)
+    (ran once program MemoryWhy entries None (λ boot begins. (let s = stands boot begins in (s.0, s.1, s.2.running))) light told_memory)
 
 pub ended_run : OneThin → (program : ThinModule) (memory : LinearMemory) (thread : GuestThread) (memory' : LinearMemory) (thread' : GuestThread) (entries entries' : List Entry) (entry : Entry) (ended : Option ℕ) (code : ℕ) → Standing program memory thread entries → Turned program memory thread memory' thread' entry ended → ended ≡ Some code → weight entries + entry_weight entry ≤ weight_limit → entries' ≡ entries ++ entry ∷ [] → Ran program (ExitedWhy code) entries'
 ended_run once program memory thread memory' thread' entries entries' entry ended code stands turned is light same =
     let leading : Leading program (entries ++ entry ∷ []) (Some (Exited code)) = λ boot begins.
-        (let s = stands boot begins in
-         let leads : LeadsToEnd s.0 entry code = subst (λ (o : Option ℕ). LeadsOn s.0 program memory' thread' entry o) is (turned s.0 s.2) in
-         (leads.0, runs_more boot entries s.0 entry leads.0 s.1 leads.1, leads.2)) in
+    (let s = stands boot begins in
+    let leads : LeadsToEnd s.0 entry code = subst (λ (o : Option ℕ). LeadsOn s.0 program memory' thread' entry o) is (turned s.0 s.2) in
+    (leads.0, runs_more boot entries s.0 entry leads.0 s.1 leads.1, leads.2)) in
     let within : weight (entries ++ entry ∷ []) ≤ weight_limit = omega (arith, weight_more entries entry) in
     subst (λ (es : List Entry). Ran program (ExitedWhy code) es) (sym same)
-      (ran once program (ExitedWhy code) (entries ++ entry ∷ []) (Some (Exited code)) leading within (told_exited code))
+    (ran once program (ExitedWhy code) (entries ++ entry ∷ []) (Some (Exited code)) leading within (told_exited code))
 
 pub next_stands : (program : ThinModule) (memory : LinearMemory) (thread : GuestThread) (memory' : LinearMemory) (thread' : GuestThread) (entries entries' : List Entry) (entry : Entry) (ended : Option ℕ) → Standing program memory thread entries → Turned program memory thread memory' thread' entry ended → ended ≡ None → entries' ≡ entries ++ entry ∷ [] → Standing program memory' thread' entries'
 next_stands program memory thread memory' thread' entries entries' entry ended stands turned is same = λ boot begins.
     (let s = stands boot begins in
-     let leads : LeadsOn s.0 program memory' thread' entry None = subst (λ (o : Option ℕ). LeadsOn s.0 program memory' thread' entry o) is (turned s.0 s.2) in
-     (leads.0, subst (λ (es : List Entry). RunsTo boot es leads.0) (sym same) (runs_more boot entries s.0 entry leads.0 s.1 leads.1), leads.2))
+    let leads : LeadsOn s.0 program memory' thread' entry None = subst (λ (o : Option ℕ). LeadsOn s.0 program memory' thread' entry o) is (turned s.0 s.2) in
+    (leads.0, subst (λ (es : List Entry). RunsTo boot es leads.0) (sym same) (runs_more boot entries s.0 entry leads.0 s.1 leads.1), leads.2))

@@ -83,8 +83,8 @@ answer_write kernel pid tid request description Input = if_writable kernel pid t
 abbrev pub answer_fd_write : Kernel → ℕ → ℕ → Request → Option Answer
 answer_fd_write kernel pid tid request =
     unless_refused kernel pid tid request
-      (over_description kernel pid tid (description_of kernel pid (slice_index request.words 0))
-        (λ description. answer_write kernel pid tid request description description.kind))
+    (over_description kernel pid tid (description_of kernel pid (slice_index request.words 0))
+    (λ description. answer_write kernel pid tid request description description.kind))
 
 -- each call by its number
 abbrev pub answer_call : ℕ → Kernel → ℕ → ℕ → Request → Option Answer

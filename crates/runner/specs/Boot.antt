@@ -75,10 +75,10 @@ first_descriptors = insert (insert (insert (insert empty (1, 0) 0) (1, 1) 1) (1,
 abbrev pub first_descriptions : FinMap nat_cmp Description
 first_descriptions =
     insert (insert (insert (insert empty
-      0 (record { kind = Input; read = true; write = false }))
-      1 (record { kind = Output; read = false; write = true }))
-      2 (record { kind = Error; read = false; write = true }))
-      3 (record { kind = Dir 1; read = true; write = false })
+    0 (record { kind = Input; read = true; write = false }))
+    1 (record { kind = Output; read = false; write = true }))
+    2 (record { kind = Error; read = false; write = true }))
+    3 (record { kind = Dir 1; read = true; write = false })
 
 -- the kernel of one process with one thread, which is handed out
 abbrev pub first_kernel : Kernel

@@ -78,10 +78,10 @@ abbrev pub write_reply : ℕ → ℕ → List ℕ → WriteReply
 write_reply refused fd bytes =
     if nat_eq refused 0
     then (if nat_eq fd 1 then record { errno = 0; bytes = bytes; place = OutputPlace }
-          else if nat_eq fd 2 then record { errno = 0; bytes = bytes; place = ErrorPlace }
-          else if nat_eq fd 0 then refused_write (errno_number Notcapable)
-          else if nat_eq fd 3 then refused_write (errno_number Isdir)
-          else refused_write (errno_number Badf))
+    else if nat_eq fd 2 then record { errno = 0; bytes = bytes; place = ErrorPlace }
+    else if nat_eq fd 0 then refused_write (errno_number Notcapable)
+    else if nat_eq fd 3 then refused_write (errno_number Isdir)
+    else refused_write (errno_number Badf))
     else refused_write refused
 
 -- the entry of a write

@@ -31,7 +31,10 @@ impl Journal {
     pub fn new(alloc: Global) -> Journal
         ensures { result ≡ [] }
     {
-        Journal { entries: Vec::new(alloc), total: 0 }
+        Journal {
+            entries: Vec::new(alloc),
+            total: 0,
+        }
     }
 
     /// Adds an entry at the end. After an error the journal is as before.

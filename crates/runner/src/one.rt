@@ -240,12 +240,7 @@ fn last(mut journal: Journal, entry: Entry, code: u32) -> Finished
 }
 
 // The turns of a thread that stands at its boot, to the end of the run.
-fn run_turns(
-    alloc: Global,
-    program: &Thin,
-    memory: &mut Memory,
-    thread: &mut Thread,
-) -> Finished
+fn run_turns(alloc: Global, program: &Thin, memory: &mut Memory, thread: &mut Thread) -> Finished
     requires stands { (boot : Boot) → Begins boot program.now → StandsAt (boot_world boot program.now) program.now memory.old (thread_of program.now thread.old) }
     requires fits { Fits program.now (thread_of program.now thread.old) }
     requires short { steps_left (thread_of program.now thread.old) ≤ 1001 }

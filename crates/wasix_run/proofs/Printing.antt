@@ -47,12 +47,12 @@ front_more stream entries i found entry start before after lt looked is was grew
     let rest : List ℕ = printed stream (drop (i + 1) entries) in
     let n : ℕ = grew.0 in
     let all : printed stream entries ≡ so_far ++ (next ++ rest) =
-        printed_rest stream entries (i + 1) ∙ ap (λ (bs : List ℕ). bs ++ rest) (printed_more stream entries i found entry lt looked is) ∙ append_assoc so_far next rest in
+    printed_rest stream entries (i + 1) ∙ ap (λ (bs : List ℕ). bs ++ rest) (printed_more stream entries i found entry lt looked is) ∙ append_assoc so_far next rest in
     let few : n ≤ length next = grew.1 in
     let long : length (printed stream entries) ≡ length so_far + (length next + length rest) = ap length all ∙ length-append so_far (next ++ rest) ∙ ap (λ k. length so_far + k) (length-append next rest) in
     let within : length so_far + n ≤ length (printed stream entries) = omega arith in
     let front : take (length so_far + n) (printed stream entries) ≡ so_far ++ take n next =
-        ap (take (length so_far + n)) all ∙ take-append-add so_far (next ++ rest) n ∙ ap (λ (bs : List ℕ). so_far ++ bs) (take-append-le n next rest few) in
+    ap (take (length so_far + n)) all ∙ take-append-add so_far (next ++ rest) n ∙ ap (λ (bs : List ℕ). so_far ++ bs) (take-append-le n next rest few) in
     (length so_far + n, within, told_more start before after so_far (take n next) (take (length so_far + n) (printed stream entries)) was grew.2 front)
 
 -- ---- fronts

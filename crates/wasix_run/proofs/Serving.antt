@@ -151,7 +151,7 @@ module _ (words : List (List ℕ)) (files : Files) where
       let same : boots.names.file ≡ file = cc in
       let loads : Loads (one_boot boots.bytes) boots.program = subst (λ (b : Boot). Loads b boots.program) boots.is boots.loads in
       let here : get {R = slice_cmp nat_cmp} (insert empty program_path boots.bytes) program_path ≡ Some boots.bytes =
-          get-insert nat_list_cmp_total empty program_path boots.bytes program_path ∙ ap (λ b. cond b (Some boots.bytes) (get {R = slice_cmp nat_cmp} empty program_path)) ((eq_by_cmp_equiv nat_list_cmp_total).refl program_path) in
+      get-insert nat_list_cmp_total empty program_path boots.bytes program_path ∙ ap (λ b. cond b (Some boots.bytes) (get {R = slice_cmp nat_cmp} empty program_path)) ((eq_by_cmp_equiv nat_list_cmp_total).refl program_path) in
       let both : Some loads.0 ≡ Some boots.bytes = sym loads.1 ∙ here in
       let bytes : loads.0 ≡ boots.bytes = cc in
       (boots.bytes, record { found = ap (file_named files) (sym same) ∙ boots.names.found; short = boots.short }, boots.program, subst (λ (b : List ℕ). SpellsThin b boots.program) bytes loads.2)
@@ -163,22 +163,22 @@ module _ (words : List (List ℕ)) (files : Files) where
       refused ShelfFault (λ code e. cc) (shelf_failed TooLong (IsTooLong words files) (λ e. cc)) (shelf_failed (BadProgram Malformed) (IsMalformed words files) (λ e. cc)) (shelf_failed (BadProgram NotYet) (IsNotYet words files) (λ e. cc)) (λ boot boots sound. absurd (sound refl))
   serves_refused file TooLong command cause =
       refused TooLong (λ code e. cc)
-        (just TooLong (IsTooLong words files) (cause.0, record { file = file; command = command; found = cause.1 }, cause.2))
-        (neither TooLong (BadProgram Malformed) (IsMalformed words files) (λ e. cc) (too_long_malformed words files file command cause.0 cause.1 cause.2))
-        (neither TooLong (BadProgram NotYet) (IsNotYet words files) (λ e. cc) (too_long_not_yet words files file command cause.0 cause.1 cause.2))
-        (λ boot boots sound. (let s = boot_spells file boot command boots in absurd (short_enough words files file command s.0 s.1 (cause.0, record { file = file; command = command; found = cause.1 }, cause.2))))
+      (just TooLong (IsTooLong words files) (cause.0, record { file = file; command = command; found = cause.1 }, cause.2))
+      (neither TooLong (BadProgram Malformed) (IsMalformed words files) (λ e. cc) (too_long_malformed words files file command cause.0 cause.1 cause.2))
+      (neither TooLong (BadProgram NotYet) (IsNotYet words files) (λ e. cc) (too_long_not_yet words files file command cause.0 cause.1 cause.2))
+      (λ boot boots sound. (let s = boot_spells file boot command boots in absurd (short_enough words files file command s.0 s.1 (cause.0, record { file = file; command = command; found = cause.1 }, cause.2))))
   serves_refused file (BadProgram Malformed) command cause =
       refused (BadProgram Malformed) (λ code e. cc)
-        (neither (BadProgram Malformed) TooLong (IsTooLong words files) (λ e. cc) (short_enough words files file command cause.0 cause.1))
-        (just (BadProgram Malformed) (IsMalformed words files) (cause.0, record { file = file; command = command; found = cause.1.found }, cause.1.short, cause.2))
-        (neither (BadProgram Malformed) (BadProgram NotYet) (IsNotYet words files) (λ e. cc) (malformed_not_yet words files file command cause.0 cause.1.found cause.2))
-        (λ boot boots sound. (let s = boot_spells file boot command boots in absurd (begins_not_malformed words files file command s.0 s.1.found (begins s.0 s.2 s.3) (cause.0, record { file = file; command = command; found = cause.1.found }, cause.1.short, cause.2))))
+      (neither (BadProgram Malformed) TooLong (IsTooLong words files) (λ e. cc) (short_enough words files file command cause.0 cause.1))
+      (just (BadProgram Malformed) (IsMalformed words files) (cause.0, record { file = file; command = command; found = cause.1.found }, cause.1.short, cause.2))
+      (neither (BadProgram Malformed) (BadProgram NotYet) (IsNotYet words files) (λ e. cc) (malformed_not_yet words files file command cause.0 cause.1.found cause.2))
+      (λ boot boots sound. (let s = boot_spells file boot command boots in absurd (begins_not_malformed words files file command s.0 s.1.found (begins s.0 s.2 s.3) (cause.0, record { file = file; command = command; found = cause.1.found }, cause.1.short, cause.2))))
   serves_refused file (BadProgram NotYet) command cause =
       refused (BadProgram NotYet) (λ code e. cc)
-        (neither (BadProgram NotYet) TooLong (IsTooLong words files) (λ e. cc) (short_enough words files file command cause.0 cause.1))
-        (neither (BadProgram NotYet) (BadProgram Malformed) (IsMalformed words files) (λ e. cc) (begins_not_malformed words files file command cause.0 cause.1.found cause.2))
-        (just (BadProgram NotYet) (IsNotYet words files) (cause.0, record { file = file; command = command; found = cause.1.found }, cause.1.short, cause.2, cause.3))
-        (λ boot boots sound. (let s = boot_spells file boot command boots in absurd (spelled_not_yet words files file command s.0 s.2 s.1.found s.3 (cause.0, record { file = file; command = command; found = cause.1.found }, cause.1.short, cause.2, cause.3))))
+      (neither (BadProgram NotYet) TooLong (IsTooLong words files) (λ e. cc) (short_enough words files file command cause.0 cause.1))
+      (neither (BadProgram NotYet) (BadProgram Malformed) (IsMalformed words files) (λ e. cc) (begins_not_malformed words files file command cause.0 cause.1.found cause.2))
+      (just (BadProgram NotYet) (IsNotYet words files) (cause.0, record { file = file; command = command; found = cause.1.found }, cause.1.short, cause.2, cause.3))
+      (λ boot boots sound. (let s = boot_spells file boot command boots in absurd (spelled_not_yet words files file command s.0 s.2 s.1.found s.3 (cause.0, record { file = file; command = command; found = cause.1.found }, cause.1.short, cause.2, cause.3))))
   serves_refused file (BadProgram NoMemory) command cause = absurd cause
   serves_refused file WriteFault command cause = absurd cause
   serves_refused file Memory command cause =
@@ -202,7 +202,12 @@ module _ (words : List (List ℕ)) (files : Files) where
 
   its_boot : (file bytes : List ℕ) (program : ThinModule) → line words ≡ Some (One file) → HasProgram files file bytes → SpellsThin bytes program → Boots words files (one_boot bytes)
   its_boot file bytes program command has spelled = record {
-    bytes = bytes; program = program; names = record { file = file; command = command; found = has.found }; short = has.short; is = refl; loads = (boot_begins file program bytes spelled).loads;
+    bytes = bytes;
+    program = program;
+    names = record { file = file; command = command; found = has.found };
+    short = has.short;
+    is = refl;
+    loads = (boot_begins file program bytes spelled).loads;
   }
 
   -- a run's reason is none of the refusals
@@ -228,10 +233,14 @@ module _ (words : List (List ℕ)) (files : Files) where
         run = λ boot boots. ran.run boot (first boot command has.found spelled boots);
         replies = λ boot boots. ran.replies boot (first boot command has.found spelled boots);
         order = λ boot boots. ran.order boot (first boot command has.found spelled boots);
-        exited = λ code.
-          ((λ e. (one_boot bytes, its_boot file bytes program command has spelled,
-                  (ran.exited (one_boot bytes) code (boot_begins file program bytes spelled)).0 (exited_why why code e))),
-           (λ ends. ap reason_of ((ran.exited ends.0 code (first ends.0 command has.found spelled ends.1)).1 ends.2)));
+        exited = λ code. (
+          (λ e. (
+            one_boot bytes,
+            its_boot file bytes program command has spelled,
+            (ran.exited (one_boot bytes) code (boot_begins file program bytes spelled)).0 (exited_why why code e),
+          )),
+          (λ ends. ap reason_of ((ran.exited ends.0 code (first ends.0 command has.found spelled ends.1)).1 ends.2)),
+        );
         too_long = ran_exactly why TooLong (IsTooLong words files) (λ code e. cc) (λ e. cc) (short_enough words files file command bytes has);
         malformed = ran_exactly why (BadProgram Malformed) (IsMalformed words files) (λ code e. cc) (λ e. cc) (begins_not_malformed words files file command bytes has.found (begins bytes program spelled));
         not_yet = ran_exactly why (BadProgram NotYet) (IsNotYet words files) (λ code e. cc) (λ e. cc) (spelled_not_yet words files file command bytes program has.found spelled);

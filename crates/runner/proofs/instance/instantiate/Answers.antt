@@ -17,7 +17,7 @@ pub write_segment-requires : goal.write_segment-requires
 write_segment-requires c =
     let items : List Segment = c.segments-segment-items.result.now in
     let all : All (IsWithinMemory c.args.program.now.memory) items =
-        subst (λ (xs : List Segment). All (IsWithinMemory c.args.program.now.memory) xs) (sym c.loop-segment.invariant.items) c.memory.ensures.valid.within in
+    subst (λ (xs : List Segment). All (IsWithinMemory c.args.program.now.memory) xs) (sym c.loop-segment.invariant.items) c.memory.ensures.valid.within in
     let within = All-get_or (IsWithinMemory c.args.program.now.memory) items c.loop-segment.segment-index c.segment-item.result c.loop-segment-test.true all in
     let fits = within_pages c.args.program.now.memory c.segment-item.result (subst (IsWithinMemory c.args.program.now.memory) (sym c.segment-item.is) within) in
     omega (arith, c.loop-segment.invariant.len)
@@ -29,9 +29,9 @@ loop-segment-preserved c =
     record {
       items = c.loop-segment.invariant.items;
       written =
-        c.write_segment.ensures.written
-        ∙ ap (λ (m : LinearMemory). record m { bytes = with_segment m.bytes c.segment-item.result }) c.loop-segment.invariant.written
-        ∙ ap (λ (b : List ℕ). record { bytes = b; maximum = most_pages c.args.program.now.memory; shared = false })
-            (ap (with_segment bytes) c.segment-item.is ∙ sym (one_more (zero_pages (pages_of c.args.program.now.memory)) items c.loop-segment.segment-index c.segment-item.result c.loop-segment-test.true));
+          c.write_segment.ensures.written
+          ∙ ap (λ (m : LinearMemory). record m { bytes = with_segment m.bytes c.segment-item.result }) c.loop-segment.invariant.written
+          ∙ ap (λ (b : List ℕ). record { bytes = b; maximum = most_pages c.args.program.now.memory; shared = false })
+          (ap (with_segment bytes) c.segment-item.is ∙ sym (one_more (zero_pages (pages_of c.args.program.now.memory)) items c.loop-segment.segment-index c.segment-item.result c.loop-segment-test.true));
       len = c.write_segment.ensures.len ∙ c.loop-segment.invariant.len;
     }

@@ -13,8 +13,8 @@ pub run_turns-requires-clause-stands : goal.run_turns-requires-clause-stands
 run_turns-requires-clause-stands c = λ boot begins.
     let program = c.args.program.now in
     subst (λ (m : LinearMemory). StandsAt (boot_world boot program) program m (thread_of program c.in-Ok.thread)) (sym c.in-Ok.ensures.memory)
-      (subst (λ (t : GuestThread). StandsAt (boot_world boot program) program (first_memory program) t) (sym c.in-Ok.ensures.thread)
-        (boot_stands boot program begins (subst (λ (t : GuestThread). steps_left t ≤ 1001) c.in-Ok.ensures.thread c.in-Ok.ensures.short)))
+    (subst (λ (t : GuestThread). StandsAt (boot_world boot program) program (first_memory program) t) (sym c.in-Ok.ensures.thread)
+    (boot_stands boot program begins (subst (λ (t : GuestThread). steps_left t ≤ 1001) c.in-Ok.ensures.thread c.in-Ok.ensures.short)))
 
 pub returns-in-Err-clause-run : goal.returns-in-Err-clause-run
 returns-in-Err-clause-run c = λ boot begins.

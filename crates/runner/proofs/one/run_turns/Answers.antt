@@ -35,11 +35,11 @@ returns-in-Some c =
     elim c.last.ensures.either [
       | inl exited ↦
           subst (λ (w : Why). Ran c.args.program.now w c.last.result.journal) (sym exited)
-            (ended_run c.one_thin_module.ensures c.args.program.now c.loop-entry.memory before c.take_turn.new.memory after c.loop-entry.journal c.last.result.journal c.in-Ok.field-0.entry c.in-Ok.field-0.ended c.in-Some.code
-              c.loop-entry.invariant.leads c.in-Ok.ensures.leads c.in-Some.is room (c.last.ensures.ended exited))
+          (ended_run c.one_thin_module.ensures c.args.program.now c.loop-entry.memory before c.take_turn.new.memory after c.loop-entry.journal c.last.result.journal c.in-Ok.field-0.entry c.in-Ok.field-0.ended c.in-Some.code
+          c.loop-entry.invariant.leads c.in-Ok.ensures.leads c.in-Some.is room (c.last.ensures.ended exited))
       | inr want ↦
           subst (λ (w : Why). Ran c.args.program.now w c.last.result.journal) (sym want)
-            (open_run c.one_thin_module.ensures c.args.program.now c.loop-entry.memory before c.loop-entry.journal c.last.result.journal c.loop-entry.invariant.leads light (c.last.ensures.memory want))
+          (open_run c.one_thin_module.ensures c.args.program.now c.loop-entry.memory before c.loop-entry.journal c.last.result.journal c.loop-entry.invariant.leads light (c.last.ensures.memory want))
     ]
 
 pub push-requires : goal.push-requires
@@ -60,7 +60,7 @@ loop-entry-preserved c =
     let more : weight c.push.new.self ≡ weight c.loop-entry.journal + entry_weight c.in-Ok.field-0.entry = ap weight c.in-Ok-push.ensures.ok ∙ weight_more c.loop-entry.journal c.in-Ok.field-0.entry in
     record {
       leads = next_stands c.args.program.now c.loop-entry.memory before c.take_turn.new.memory after c.loop-entry.journal c.push.new.self c.in-Ok.field-0.entry c.in-Ok.field-0.ended
-        c.loop-entry.invariant.leads c.in-Ok.ensures.leads c.in-None.is c.in-Ok-push.ensures.ok;
+          c.loop-entry.invariant.leads c.in-Ok.ensures.leads c.in-None.is c.in-Ok-push.ensures.ok;
       fits = goes.fits;
       short = omega (arith, goes.fewer, c.loop-entry.invariant.short);
       main = goes.main;
