@@ -1,5 +1,5 @@
 -- Runs of steps, one step longer, and what is left of them.
-use Rattle.std.proofs.Common.{◌≡◌, ◌<◌, ◌^◌, ℕ, zero, suc, ◌+◌, List, [], ◌∷◌, length, count_by, Option, Some, None, Bool, refl, sym, ap, subst, ◌∙◌, arith, add-one}
+use Rattle.std.proofs.Common.{◌≡◌, ℕ, zero, suc, ◌+◌, List, [], ◌∷◌, length, count_by, Option, Some, sym, ap, subst, ◌∙◌, arith}
 use Rattle.wasm_decode.specs.ThinModule.{ThinModule, is_call}
 use Rattle.wasm_decode.specs.declared.thin.ThinInstr.{ThinInstr}
 use Rattle.wasm_decode.specs.declared.thin.ThinInstr.TheVariants.{Const, Call, Drop}

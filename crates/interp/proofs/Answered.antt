@@ -1,18 +1,18 @@
 -- A thread whose call of fd_write is answered.
-use Rattle.std.proofs.Common.{◌≡◌, ◌<◌, ◌≤◌, ◌-◌, ◌^◌, ℕ, zero, suc, ◌+◌, List, [], ◌∷◌, ◌++◌, length, take, drop, reverse, Option, Some, None, Bool, true, false, cond, if◌then◌else◌, slice_get, nat_le, count_by, option_and_then, refl, sym, ap, subst, ◌∙◌, arith, add-one}
+use Rattle.std.proofs.Common.{◌≡◌, ◌<◌, ◌≤◌, ◌-◌, ◌^◌, ℕ, zero, suc, ◌+◌, List, [], ◌∷◌, ◌++◌, length, take, drop, reverse, Some, None, false, cond, if◌then◌else◌, slice_get, count_by, option_and_then, sym, ap, subst, ◌∙◌, arith}
 use Rattle.std.specs.List.{AllByRecursion}
 use Rattle.std.proofs.lemmas.Bool.{le-leb}
 use Rattle.std.proofs.lemmas.List.Sums.{sum_by-append}
-use Rattle.std.proofs.lemmas.List.{reverse-append, reverse-reverse, take-append-drop, length-reverse, length-drop, length-take, drop_at, drop-drop}
-use Rattle.wasm_decode.specs.ThinModule.{ThinModule, heights, height_after_call, takes, gives, is_call}
+use Rattle.std.proofs.lemmas.List.{reverse-append, take-append-drop, length-reverse, length-drop, drop_at, drop-drop}
+use Rattle.wasm_decode.specs.ThinModule.{ThinModule, heights, height_after_call, takes, is_call}
 use Rattle.wasm_decode.specs.declared.thin.ThinImport.{ThinImport}
-use Rattle.wasm_decode.specs.declared.thin.ThinImport.TheVariants.{ProcExit, FdWrite}
+use Rattle.wasm_decode.specs.declared.thin.ThinImport.TheVariants.{FdWrite}
 use Rattle.wasm_decode.specs.declared.thin.ThinInstr.{ThinInstr}
 use Rattle.wasm_decode.specs.declared.thin.ThinInstr.TheVariants.{Const, Call, Drop}
 use Rattle.interp.specs.declared.thread.Stop.TheVariants.{Call as CallStop}
 use Rattle.linear_memory.specs.LinearMemory.{LinearMemory}
 use Rattle.interp.specs.GuestThread.{Frame, GuestThread, Snapshot, frames_of, thread_of, answered, frames_answered, frame_answered}
-use Rattle.interp.specs.Step.{Stepped, step, step_code, step_frames}
+use Rattle.interp.specs.Step.{step, step_code, step_frames}
 use Rattle.interp.specs.Stops.{StopsAs}
 use Rattle.interp.specs.Fits.{FitsFrame, Fits}
 use Rattle.interp.specs.Left.{steps_left, calls_left, frames_left, frames_calls}

@@ -1,5 +1,5 @@
 -- A thread of a typed program that stands at a call has the call's operands.
-use Rattle.std.proofs.Common.{◌≡◌, ◌<◌, ◌≤◌, ◌-◌, ◌^◌, ℕ, zero, suc, ◌+◌, List, [], ◌∷◌, ◌++◌, length, take, drop, reverse, Option, Some, None, Bool, true, false, if◌then◌else◌, slice_get, get_or, nat_le, option_and_then, refl, sym, ap, subst, ◌∙◌, arith, length-append}
+use Rattle.std.proofs.Common.{◌≡◌, ◌<◌, ◌≤◌, ◌-◌, ℕ, ◌+◌, List, [], ◌∷◌, ◌++◌, length, take, drop, reverse, Option, Some, None, Bool, true, false, if◌then◌else◌, slice_get, get_or, nat_le, option_and_then, refl, sym, ap, subst, ◌∙◌, arith}
 use Rattle.std.specs.List.{AllByRecursion}
 use Rattle.std.proofs.lemmas.Bool.{leb-true}
 use Rattle.std.proofs.Math.Seq.{take-length}
@@ -7,13 +7,12 @@ use Rattle.std.proofs.lemmas.Option.{slice_get_read, slice_get_within}
 use Rattle.std.proofs.lemmas.List.{reverse-append, reverse-reverse, take-append-drop, length-reverse, length-drop, drop_at}
 use Rattle.wasm_decode.specs.ThinModule.{ThinModule, heights, height_after_call, takes, gives}
 use Rattle.wasm_decode.specs.declared.thin.ThinImport.{ThinImport}
-use Rattle.wasm_decode.specs.declared.thin.ThinImport.TheVariants.{ProcExit}
 use Rattle.wasm_decode.specs.declared.thin.ThinInstr.{ThinInstr}
 use Rattle.wasm_decode.specs.declared.thin.ThinInstr.TheVariants.{Const, Call, Drop}
 use Rattle.interp.specs.declared.thread.Stop.TheVariants.{Call as CallStop}
 use Rattle.linear_memory.specs.LinearMemory.{LinearMemory}
-use Rattle.interp.specs.GuestThread.{Frame, GuestThread, Snapshot, frames_of, thread_of, frame_arguments, arguments}
-use Rattle.interp.specs.Step.{Stepped, Next, AtCall, Finished, Stuck, step, step_code, step_drop, step_frames}
+use Rattle.interp.specs.GuestThread.{Frame, GuestThread, Snapshot, thread_of, frame_arguments, arguments}
+use Rattle.interp.specs.Step.{step, step_code, step_frames}
 use Rattle.interp.specs.Stops.{StopsAs}
 use Rattle.interp.specs.Fits.{FitsFrame, Fits}
 

@@ -1,5 +1,5 @@
 -- What a thread of a typed program keeps (WebAssembly Core 1.0, 3.3 and 7.5).
-use Rattle.std.specs.Prelude.{◌≡◌, ℕ, ◌<◌, ◌^◌, List, [], ◌∷◌, Option, Some, length}
+use Rattle.std.specs.Prelude.{◌≡◌, ◌<◌, ◌^◌, Some, length}
 use Rattle.std.specs.List.{AllByRecursion}
 use Rattle.wasm_decode.specs.ThinModule.{ThinModule, heights}
 use Rattle.interp.specs.GuestThread.{Frame, GuestThread}

@@ -1,5 +1,5 @@
 -- A guest thread: its frames, the innermost first (WebAssembly Core 1.0, 4.2.12).
-use Rattle.std.specs.Prelude.{◌≡◌, ℕ, ◌+◌, Bool, List, [], ◌∷◌, ◌++◌, Option, Some, None, take, drop, reverse, if◌then◌else◌}
+use Rattle.std.specs.Prelude.{ℕ, Bool, List, [], ◌∷◌, ◌++◌, take, drop, reverse, if◌then◌else◌}
 use Rattle.wasm_decode.specs.ThinModule.{ThinModule}
 use Rattle.wasm_decode.specs.declared.thin.ThinInstr.{ThinInstr}
 

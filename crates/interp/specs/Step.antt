@@ -1,5 +1,5 @@
 -- One step of a guest thread, and several (WebAssembly Core 1.0, 4.4).
-use Rattle.std.specs.Prelude.{◌≡◌, ◌≢◌, ℕ, zero, suc, List, [], ◌∷◌, Option, Some, None}
+use Rattle.std.specs.Prelude.{ℕ, zero, suc, List, [], ◌∷◌, Option, Some, None}
 use Rattle.wasm_decode.specs.ThinModule.{ThinModule}
 use Rattle.wasm_decode.specs.declared.thin.ThinInstr.{ThinInstr}
 use Rattle.wasm_decode.specs.declared.thin.ThinInstr.TheVariants.{Const, Call, Drop}

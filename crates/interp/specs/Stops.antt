@@ -1,5 +1,5 @@
 -- What a thread stands at.
-use Rattle.std.specs.Prelude.{◌≡◌, ℕ, Option, Some, None}
+use Rattle.std.specs.Prelude.{◌≡◌}
 use Rattle.interp.specs.declared.thread.Stop.{Stop}
 use Rattle.interp.specs.declared.thread.Stop.TheVariants.{Spent, Call, Finished as Returned}
 use Rattle.interp.specs.Step.{Stepped, Next, AtCall, Finished, Stuck}

@@ -1,4 +1,4 @@
-use Rattle.std.proofs.Common.{◌≡◌, ◌≤◌, IsSome, Some, length, List, ℕ, refl, arith, subst, sym, ap, ◌∙◌}
+use Rattle.std.proofs.Common.{IsSome, length, refl, arith, subst, sym, ap, ◌∙◌}
 use Rattle.wasm_decode.specs.ThinModule.{takes}
 use Rattle.interp.proofs.AnyMemory.{any_memory}
 use Rattle.interp.proofs.Calls.{calling, last_operands, same_import, within_imports, tail_is, tail_long}
