@@ -1,0 +1,4 @@
+pub mod Sequence
+pub mod Numbering
+pub mod Locals
+pub mod Types
