@@ -7,6 +7,8 @@ mod instr;
 mod items;
 mod locals;
 mod module;
+mod opcode;
+mod operators;
 mod types;
 
 pub use body::Body;
@@ -19,4 +21,5 @@ pub use locals::{LocalGroup, Locals};
 pub use module::{
     Code, Element, Export, ExportKind, GlobalVar, Import, ImportKind, Module, Segment,
 };
+pub use opcode::{ATOMIC_OPCODES, AtomicOpcode, OPCODES, Opcode};
 pub use types::{FuncType, IntType, Limits, ValType};
