@@ -1,1 +1,2 @@
 pub mod LocalsLemmas
+pub mod NumberingLemmas

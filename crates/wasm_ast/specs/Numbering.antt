@@ -53,7 +53,7 @@ sequence inner (i ∷ is) = in_front inner i (sequence inner is)
 
 -- The sequence of the list of that number, to a depth of blocks. An inner list has a greater number,
 -- so no more depth is needed than there are lists.
-pub within : List (List Instr) → ℕ → ℕ → Sequence
+unfoldable pub within : List (List Instr) → ℕ → ℕ → Sequence
 within lists zero n = Empty
 within lists (suc depth) n = sequence (within lists depth) (list_at lists n)
 

@@ -1,5 +1,5 @@
 // The instructions of a function or of an initial value, with their blocks.
-ghost use Rattle.std.specs.Prelude.{◌≡◌, IfOk};
+ghost use Rattle.std.specs.Prelude.{◌≡◌, ℕ, IfOk};
 
 use super::instr::Instr;
 use super::items::Items;
@@ -31,7 +31,7 @@ impl Model for Body {
 }
 
 impl Body {
-    ghost use Rattle.wasm_ast.specs.Numbering.{IsNumbered, nested};
+    ghost use Rattle.wasm_ast.specs.Numbering.{IsNumbered, list_at, nested, sequence};
 
     /// The body of these lists. No memory is taken.
     pub fn new(lists: Vec<Items<Instr>>) -> Body
@@ -41,10 +41,12 @@ impl Body {
         Body { lists }
     }
 
-    /// The lists by their numbers.
+    /// The lists by their numbers. What a list means is what its instructions mean, with the inner
+    /// lists that they name.
     pub fn lists(&self) -> &[Items<Instr>]
         ensures numbered { IsNumbered result.now }
         ensures value { nested result.now 0 ≡ self.now }
+        ensures each { (n : ℕ) → nested result.now n ≡ sequence (nested result.now) (list_at result.now n) }
     {
         self.lists.as_slice()
     }
