@@ -1,0 +1,4 @@
+pub mod Grammar
+pub mod ThinModule
+pub mod ThinGrammar
+pub mod Reading
