@@ -3,3 +3,7 @@ pub mod Numbering
 pub mod Locals
 pub mod Types
 pub mod Operators
+pub mod Spelling
+pub mod SpelledTypes
+pub mod SpelledInstr
+pub mod SpelledModule
