@@ -1,0 +1,6 @@
+pub mod ReadingLaws
+pub mod TypeLaws
+pub mod InstrLaws
+pub mod Sequences
+pub mod ExprTakes
+pub mod ExprAgain
