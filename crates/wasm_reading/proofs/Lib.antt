@@ -4,3 +4,5 @@ pub mod InstrLaws
 pub mod Sequences
 pub mod ExprTakes
 pub mod ExprAgain
+pub mod PartLaws
+pub mod ModuleLaws

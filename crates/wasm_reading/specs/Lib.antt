@@ -1,3 +1,4 @@
 pub mod Reading
 pub mod ReadTypes
 pub mod ReadInstr
+pub mod ReadModule

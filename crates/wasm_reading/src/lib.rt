@@ -1,15 +1,12 @@
 //! Reading of modules from the binary format of WebAssembly Core 1.0 with the threads proposal.
 #![tactic(auto)]
 
-ghost use Rattle.std.specs.Prelude.{◌≡◌};
-ghost use Rattle.wasm_reading.specs.ReadTypes.{functype_at};
-ghost use Rattle.wasm_reading.specs.ReadInstr.{expr_at};
-ghost use Rattle.wasm_reading.specs.Reading.{IsExact};
-ghost use Rattle.wasm_ast.specs.SpelledTypes.{SpellsFuncType};
-ghost use Rattle.wasm_ast.specs.SpelledInstr.{SpellsExpr};
+ghost use Rattle.std.specs.Prelude.{◌≡◌, List, ℕ};
+ghost use Rattle.wasm_ast.specs.SpelledModule.{SpellsModule};
+ghost use Rattle.wasm_ast.specs.declared.module.Module.{Module};
 
-pub fn probe()
-    ensures one { IsExact SpellsFuncType functype_at }
-    ensures two { IsExact SpellsExpr expr_at }
+/// Bytes spell at most one module.
+pub fn bytes_spell_one_module()
+    ensures { (bytes : List ℕ) (m n : Module) → SpellsModule bytes m → SpellsModule bytes n → m ≡ n }
 {
 }
