@@ -6,3 +6,4 @@ pub mod ExprTakes
 pub mod ExprAgain
 pub mod PartLaws
 pub mod ModuleLaws
+pub mod ItemLemmas

@@ -2,3 +2,4 @@ pub mod Reading
 pub mod ReadTypes
 pub mod ReadInstr
 pub mod ReadModule
+pub mod Given

@@ -10,7 +10,7 @@ use Rattle.wasm_ast.specs.declared.opcode.AtomicOpcode.{AtomicOpcode}
 use Rattle.wasm_ast.specs.declared.opcode.AtomicOpcode.TheVariants as atomic
 use Rattle.wasm_ast.specs.Sequence.{Sequence, Empty, Plain, Block, Loop, If}
 use Rattle.wasm_ast.specs.SpelledInstr.{opcode_at, atomic_at}
-use Rattle.wasm_reading.specs.Reading.{and_then, mapped, pair_at, behind_at, span_at, u32_at, i32_at, i64_at, vec_at}
+use Rattle.wasm_reading.specs.Reading.{and_then, mapped, pair_at, next_at, behind_at, span_at, u32_at, i32_at, i64_at, vec_at}
 use Rattle.wasm_reading.specs.ReadTypes.{blocktype_at}
 
 -- nothing, which stands for that
@@ -30,8 +30,7 @@ atomic_immediates_at atomic.Fence bytes = zero_at instr.Fence bytes
 atomic_immediates_at (atomic.Access of) bytes = mapped (λ arg. instr.Access of arg) memarg_at bytes
 
 abbrev pub atomic_instr_at : List ℕ → Option (Instr × List ℕ)
-atomic_instr_at [] = None
-atomic_instr_at (b ∷ bytes) = atomic_immediates_at (atomic_at b) bytes
+atomic_instr_at bytes = and_then (next_at bytes) (λ b rest. atomic_immediates_at (atomic_at b) rest)
 
 -- what stands behind an opcode
 abbrev pub immediates_at : Opcode → List ℕ → Option (Instr × List ℕ)

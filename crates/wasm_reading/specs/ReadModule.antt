@@ -17,17 +17,16 @@ use Rattle.wasm_ast.specs.declared.module.Code.{Code}
 use Rattle.wasm_ast.specs.declared.module.Module.{Module}
 use Rattle.wasm_ast.specs.Locals.{added}
 use Rattle.wasm_ast.specs.SpelledModule.{Section, content_of, preamble}
-use Rattle.wasm_reading.specs.Reading.{and_then, mapped, pair_at, behind_at, u32_at, each_at, vec_at, bytes_at, name_at, all_of, sized_at}
+use Rattle.wasm_reading.specs.Reading.{and_then, mapped, pair_at, next_at, u32_at, each_at, vec_at, bytes_at, name_at, all_of, sized_at}
 use Rattle.wasm_reading.specs.ReadTypes.{valtype_at, functype_at, memory_at, table_at, globaltype_at}
 use Rattle.wasm_reading.specs.ReadInstr.{expr_at}
 
 abbrev pub import_kind_at : List ℕ → Option (ImportKind × List ℕ)
-import_kind_at [] = None
-import_kind_at (b ∷ rest) =
+import_kind_at bytes = and_then (next_at bytes) (λ b rest.
     if b == 0x00 then mapped (λ of. imported.Func of) u32_at rest
     else (if b == 0x01 then mapped (λ limits. imported.Table limits) table_at rest
     else (if b == 0x02 then mapped (λ limits. imported.Memory limits) memory_at rest
-    else (if b == 0x03 then mapped (λ g. imported.Global g.0 g.1) globaltype_at rest else None)))
+    else (if b == 0x03 then mapped (λ g. imported.Global g.0 g.1) globaltype_at rest else None))))
 
 abbrev pub import_at : List ℕ → Option (Import × List ℕ)
 import_at bytes = mapped (λ i. record { «module» = i.0; name = i.1.0; kind = i.1.1 }) (pair_at name_at (pair_at name_at import_kind_at)) bytes
@@ -36,12 +35,11 @@ abbrev pub global_at : List ℕ → Option (GlobalVar × List ℕ)
 global_at bytes = mapped (λ g. record { of = g.0.0; mutable = g.0.1; init = g.1 }) (pair_at globaltype_at expr_at) bytes
 
 abbrev pub export_kind_at : List ℕ → Option (ExportKind × List ℕ)
-export_kind_at [] = None
-export_kind_at (b ∷ rest) =
+export_kind_at bytes = and_then (next_at bytes) (λ b rest.
     if b == 0x00 then mapped (λ index. exported.Func index) u32_at rest
     else (if b == 0x01 then mapped (λ index. exported.Table index) u32_at rest
     else (if b == 0x02 then mapped (λ index. exported.Memory index) u32_at rest
-    else (if b == 0x03 then mapped (λ index. exported.Global index) u32_at rest else None)))
+    else (if b == 0x03 then mapped (λ index. exported.Global index) u32_at rest else None))))
 
 abbrev pub export_at : List ℕ → Option (Export × List ℕ)
 export_at bytes = mapped (λ e. record { name = e.0; kind = e.1 }) (pair_at name_at export_kind_at) bytes

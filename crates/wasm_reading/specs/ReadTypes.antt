@@ -5,7 +5,7 @@ use Rattle.wasm_ast.specs.declared.types.ValType.{ValType}
 use Rattle.wasm_ast.specs.declared.types.ValType.TheVariants.{I32, I64, F32, F64}
 use Rattle.wasm_ast.specs.declared.types.FuncType.{FuncType}
 use Rattle.wasm_ast.specs.declared.types.Limits.{Limits}
-use Rattle.wasm_reading.specs.Reading.{and_then, mapped, pair_at, behind_at, u32_at, vec_at, byte_as}
+use Rattle.wasm_reading.specs.Reading.{and_then, mapped, pair_at, next_at, behind_at, u32_at, vec_at, byte_as}
 
 -- the value type of a byte
 abbrev pub valtype_of : ℕ → Option ValType
@@ -30,17 +30,15 @@ abbrev pub two_limits : Bool → ℕ × ℕ → Limits
 two_limits shared l = record { min = l.0; max = Some l.1; shared = shared }
 
 abbrev pub memory_at : List ℕ → Option (Limits × List ℕ)
-memory_at [] = None
-memory_at (b ∷ rest) =
+memory_at bytes = and_then (next_at bytes) (λ b rest.
     if b == 0x00 then mapped one_limit u32_at rest
     else (if b == 0x01 then mapped (two_limits false) (pair_at u32_at u32_at) rest
-    else (if b == 0x03 then mapped (two_limits true) (pair_at u32_at u32_at) rest else None))
+    else (if b == 0x03 then mapped (two_limits true) (pair_at u32_at u32_at) rest else None)))
 
 abbrev pub unshared_at : List ℕ → Option (Limits × List ℕ)
-unshared_at [] = None
-unshared_at (b ∷ rest) =
+unshared_at bytes = and_then (next_at bytes) (λ b rest.
     if b == 0x00 then mapped one_limit u32_at rest
-    else (if b == 0x01 then mapped (two_limits false) (pair_at u32_at u32_at) rest else None)
+    else (if b == 0x01 then mapped (two_limits false) (pair_at u32_at u32_at) rest else None))
 
 abbrev pub table_at : List ℕ → Option (Limits × List ℕ)
 table_at bytes = behind_at 0x70 unshared_at bytes

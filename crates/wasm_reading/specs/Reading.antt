@@ -18,10 +18,14 @@ mapped f r bytes = and_then (r bytes) (λ x rest. Some (f x, rest))
 abbrev pub pair_at : {X Y : Type 0} → (List ℕ → Option (X × List ℕ)) → (List ℕ → Option (Y × List ℕ)) → List ℕ → Option ((X × Y) × List ℕ)
 pair_at r s bytes = and_then (r bytes) (λ x mid. and_then (s mid) (λ y rest. Some ((x, y), rest)))
 
+-- a byte
+abbrev pub next_at : List ℕ → Option (ℕ × List ℕ)
+next_at [] = None
+next_at (b ∷ bytes) = Some (b, bytes)
+
 -- that byte, and what is read behind it
 abbrev pub behind_at : {X : Type 0} → ℕ → (List ℕ → Option (X × List ℕ)) → List ℕ → Option (X × List ℕ)
-behind_at b r [] = None
-behind_at b r (c ∷ bytes) = if c == b then r bytes else None
+behind_at b r bytes = and_then (next_at bytes) (λ c rest. if c == b then r rest else None)
 
 unfoldable pub u32_at : List ℕ → Option (ℕ × List ℕ)
 u32_at bytes = result_ok (cursor.unsigned_at 32 bytes)
@@ -69,8 +73,7 @@ with_rest rest (Some x) = Some (x, rest)
 
 -- the value of a byte
 abbrev pub byte_as : {X : Type 0} → (ℕ → Option X) → List ℕ → Option (X × List ℕ)
-byte_as of [] = None
-byte_as of (b ∷ rest) = with_rest rest (of b)
+byte_as of bytes = and_then (next_at bytes) (λ b rest. with_rest rest (of b))
 
 -- a size, and what is read of so many bytes
 abbrev pub sized_at : {X : Type 0} → (List ℕ → Option (X × List ℕ)) → List ℕ → Option (X × List ℕ)

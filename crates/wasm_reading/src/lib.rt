@@ -5,6 +5,12 @@ ghost use Rattle.std.specs.Prelude.{◌≡◌, List, ℕ};
 ghost use Rattle.wasm_ast.specs.SpelledModule.{SpellsModule};
 ghost use Rattle.wasm_ast.specs.declared.module.Module.{Module};
 
+mod fault;
+mod parts;
+mod types;
+
+pub use fault::ReadFault;
+
 /// Bytes spell at most one module.
 pub fn bytes_spell_one_module()
     ensures { (bytes : List ℕ) (m n : Module) → SpellsModule bytes m → SpellsModule bytes n → m ≡ n }
