@@ -7,3 +7,6 @@ pub mod ExprAgain
 pub mod PartLaws
 pub mod ModuleLaws
 pub mod ItemLemmas
+pub mod GroupLemmas
+pub mod Numbered
+pub mod Standing

@@ -5,7 +5,10 @@ ghost use Rattle.std.specs.Prelude.{◌≡◌, List, ℕ};
 ghost use Rattle.wasm_ast.specs.SpelledModule.{SpellsModule};
 ghost use Rattle.wasm_ast.specs.declared.module.Module.{Module};
 
+mod entries;
+mod exprs;
 mod fault;
+mod instrs;
 mod parts;
 mod types;
 
