@@ -10,3 +10,5 @@ pub mod ItemLemmas
 pub mod GroupLemmas
 pub mod Numbered
 pub mod Standing
+pub mod Steps
+pub mod CodeSteps

@@ -12,22 +12,8 @@ use Rattle.wasm_ast.specs.declared.instr.Instr.TheVariants as instr
 use Rattle.wasm_ast.specs.Sequence.{Sequence, Empty, Plain, Block, Loop, If}
 use Rattle.wasm_ast.specs.Numbering.{list_at, names, times_named, InstrNames, ListNames, sequence, in_front, within, nested}
 use Rattle.wasm_reading.specs.ReadInstr.{append}
+use Rattle.wasm_reading.specs.Filling.{NamesNone, Means, none, plain, block, loop, cases, Later, occurs}
 use Rattle.wasm_reading.proofs.Sequences.{append-append}
-
--- an instruction that names no list
-abbrev pub NamesNone : Instr → Type 0
-NamesNone (instr.Block of m) = ⊥
-NamesNone (instr.Loop of m) = ⊥
-NamesNone (instr.If of m n) = ⊥
-NamesNone i = Unit {0}
-
--- what the instructions mean, over these lists
-pub data Means (lists : List (List Instr)) : List Instr → Sequence → Type 0 where
-  none : Means lists [] Empty
-  plain : {i : Instr} {is : List Instr} {s : Sequence} → NamesNone i → Means lists is s → Means lists (i ∷ is) (Plain i s)
-  block : {of : Option ValType} {m : ℕ} {is : List Instr} {t s : Sequence} → Means lists (list_at lists m) t → Means lists is s → Means lists (instr.Block of m ∷ is) (Block of t s)
-  loop : {of : Option ValType} {m : ℕ} {is : List Instr} {t s : Sequence} → Means lists (list_at lists m) t → Means lists is s → Means lists (instr.Loop of m ∷ is) (Loop of t s)
-  cases : {of : Option ValType} {m n : ℕ} {is : List Instr} {t u s : Sequence} → Means lists (list_at lists m) t → Means lists (list_at lists n) u → Means lists is s → Means lists (instr.If of m n ∷ is) (If of t u s)
 
 -- a further instruction
 pub means_more : {lists : List (List Instr)} {is : List Instr} {s : Sequence} (i : Instr) (t : Sequence) → Means lists is s → Means lists (i ∷ []) t → Means lists (is ++ i ∷ []) (append s t)
@@ -52,10 +38,6 @@ means_kept others P same (cases {m = k} {n = n} {t = t} {u = u} a b m) h =
     let q = same k h.0.0 in
     let r = same n h.0.1 in
     cases (subst (λ x. Means others x t) (sym q.0) (means_kept others P same a q.1)) (subst (λ x. Means others x u) (sym r.0) (means_kept others P same b r.1)) (means_kept others P same m h.1)
-
--- the numbers that are named are those of later lists
-abbrev pub Later : List (List Instr) → Type 0
-Later lists = (n : ℕ) → ListNames (λ m. (n < m) × (m < length lists)) (list_at lists n)
 
 instr_weaker : (P Q : ℕ → Type 0) (i : Instr) → ((m : ℕ) → P m → Q m) → InstrNames P i → InstrNames Q i
 instr_weaker P Q (instr.Block of body) f h = f body h
@@ -121,10 +103,6 @@ two_none p q = omega arith
 pub false_is_not : (b : Bool) → b ≡ false → b ≡ true → ⊥
 false_is_not true e h = cc
 false_is_not false e h = cc
-
--- how often a number is among others
-abbrev pub occurs : ℕ → List ℕ → ℕ
-occurs n ms = count_by (λ m. m == n) ms
 
 pub occurs-append : (n : ℕ) (xs ys : List ℕ) → occurs n (xs ++ ys) ≡ occurs n xs + occurs n ys
 occurs-append n xs ys = sum_by-append (λ m. cond (m == n) 1 0) xs ys

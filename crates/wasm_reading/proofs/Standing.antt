@@ -12,55 +12,8 @@ use Rattle.wasm_reading.specs.declared.exprs.Kind.{Kind}
 use Rattle.wasm_reading.specs.declared.exprs.Kind.TheVariants as kind
 use Rattle.wasm_reading.specs.declared.exprs.Frame.{Frame}
 use Rattle.wasm_reading.specs.ReadInstr.{append, Open, InBlock, InLoop, InThen, InElse}
-use Rattle.wasm_reading.proofs.Numbered.{NamesNone, Means, none, plain, block, loop, cases, means_more, means_kept, Later, names_weaker, names_more, means_nested, occurs, occurs-append, occurs-cons, false_is_not, times-more, times-empty, never_named, past_named, list_at-empty}
-
--- the list of a construct's first arm, where its second is read
-abbrev waiting : Kind → List ℕ → List ℕ
-waiting (kind.Else of arm) ns = arm ∷ ns
-waiting k ns = ns
-
--- the lists that no instruction names yet
-abbrev pub unnamed : ℕ → List Frame → List ℕ
-unnamed list [] = list ∷ []
-unnamed list (f ∷ fs) = list ∷ waiting f.kind (unnamed f.outer fs)
-
-abbrev ArmIn : ℕ → ℕ → Kind → Type 0
-ArmIn outer list (kind.Else of arm) = (outer < arm) × (arm < list)
-ArmIn outer list k = Unit {0}
-
--- inner lists have greater numbers
-abbrev pub Ordered : ℕ → List Frame → Type 0
-Ordered list [] = list ≡ 0
-Ordered list (f ∷ fs) = (f.outer < list) × ArmIn f.outer list f.kind × Ordered f.outer fs
-
-abbrev pub KindMeans : List (List Instr) → Kind → Open → Type 0
-KindMeans lists (kind.Block of) (InBlock t under) = of ≡ t
-KindMeans lists (kind.Loop of) (InLoop t under) = of ≡ t
-KindMeans lists (kind.Then of) (InThen t under) = of ≡ t
-KindMeans lists (kind.Else of arm) (InElse t one under) = (of ≡ t) × Means lists (list_at lists arm) one
-KindMeans lists _ _ = ⊥
-
-abbrev pub under : Open → Sequence
-under (InBlock t s) = s
-under (InLoop t s) = s
-under (InThen t s) = s
-under (InElse t one s) = s
-
--- what is open
-abbrev pub Opened : List (List Instr) → List Frame → List Open → Type 0
-Opened lists [] [] = Unit {0}
-Opened lists [] (o ∷ os) = ⊥
-Opened lists (f ∷ fs) [] = ⊥
-Opened lists (f ∷ fs) (o ∷ os) = KindMeans lists f.kind o × Means lists (list_at lists f.outer) (under o) × Opened lists fs os
-
--- the lists, the open constructs and the list that is filled, for what was read
-pub record Stands (lists : List (List Instr)) (fs : List Frame) (list : ℕ) (os : List Open) (before : Sequence) : Type 0 where
-  pub later : Later lists
-  pub once : (n : ℕ) → n < length lists → times_named lists n + occurs n (unnamed list fs) ≡ 1
-  pub order : Ordered list fs
-  pub inside : list < length lists
-  pub now : Means lists (list_at lists list) before
-  pub opened : Opened lists fs os
+use Rattle.wasm_reading.specs.Filling.{NamesNone, Means, none, plain, block, loop, cases, Later, occurs, waiting, unnamed, ArmIn, Ordered, KindMeans, under, Opened, Stands}
+use Rattle.wasm_reading.proofs.Numbered.{means_more, means_kept, names_weaker, names_more, means_nested, occurs-append, occurs-cons, false_is_not, times-more, times-empty, never_named, past_named, list_at-empty}
 
 -- lists that mean the same below a number
 abbrev KeptBelow : List (List Instr) → List (List Instr) → ℕ → Type 0

@@ -3,3 +3,5 @@ pub mod ReadTypes
 pub mod ReadInstr
 pub mod ReadModule
 pub mod Given
+pub mod Filling
+pub mod Reads
