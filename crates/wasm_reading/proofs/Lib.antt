@@ -12,3 +12,4 @@ pub mod Numbered
 pub mod Standing
 pub mod Steps
 pub mod CodeSteps
+pub mod StepLaws

@@ -4,7 +4,7 @@ ghost use Rattle.wasm_ast.specs.Numbering.{list_at};
 ghost use Rattle.std.specs.Bool.{MatchBool};
 ghost use Rattle.wasm_ast.specs.Sequence.{Sequence, Empty, Plain};
 ghost use Rattle.wasm_reading.specs.Filling.{NamesNone, Begins, Ends, Turns, CannotTurn};
-ghost use Rattle.wasm_reading.specs.Reads.{Reads};
+ghost use Rattle.wasm_reading.specs.Reads.{Reads, Stepped, shape_of};
 ghost use Rattle.wasm_reading.specs.Given.{Gives};
 ghost use Rattle.wasm_reading.specs.ReadInstr.{expr_at, append, Open};
 
@@ -55,6 +55,32 @@ fn push_at(lists: &mut Vec<Items<Instr>>, at: u32, instr: Instr) -> Result<(), A
 {
     let list = &mut lists[at as usize];
     list.push(instr)
+}
+
+/// What an opcode does to the constructs that are open.
+#[derive(Clone, Copy)]
+pub(crate) enum Shape {
+    End,
+    Else,
+    Block,
+    Loop,
+    If,
+    /// It begins an instruction without inner instructions, or none.
+    Plain,
+}
+
+/// What an opcode does to the constructs that are open.
+fn shape_at(opcode: Opcode) -> Shape
+    ensures { result ≡ shape_of opcode }
+{
+    match opcode {
+        Opcode::End => Shape::End,
+        Opcode::Else => Shape::Else,
+        Opcode::Block => Shape::Block,
+        Opcode::Loop => Shape::Loop,
+        Opcode::If => Shape::If,
+        _ => Shape::Plain,
+    }
 }
 
 /// The reading of an expression: its lists by number, the constructs that are open, the innermost
@@ -158,13 +184,65 @@ impl Filling {
             }
         }
     }
+
+    /// The next byte, and what stands behind it. Whether the expression ends there.
+    fn step(&mut self, alloc: Global, cursor: &mut Cursor<'_>) -> Result<bool, ReadFault>
+        requires { (os : List Open) × (before : Sequence) × Reads self.old os before }
+        ensures { (n : ℕ) (os : List Open) (before : Sequence) → Reads self.old os before → length cursor.old ≤ n → Stepped result self.new cursor.old cursor.new n os before }
+    {
+        let byte = next(cursor)?;
+        let begun = opcode(byte);
+        match shape_at(begun) {
+            Shape::End => {
+                let last = self.end(alloc)?;
+                Ok(last)
+            }
+            Shape::Else => {
+                let turns = self.turn(alloc)?;
+                if !turns {
+                    return Err(ReadFault::Malformed);
+                }
+                Ok(false)
+            }
+            Shape::Block => {
+                let of = blocktype(cursor)?;
+                self.open(alloc, Kind::Block(of))?;
+                Ok(false)
+            }
+            Shape::Loop => {
+                let of = blocktype(cursor)?;
+                self.open(alloc, Kind::Loop(of))?;
+                Ok(false)
+            }
+            Shape::If => {
+                let of = blocktype(cursor)?;
+                self.open(alloc, Kind::Then(of))?;
+                Ok(false)
+            }
+            Shape::Plain => {
+                let instr = immediates(alloc, begun, cursor)?;
+                self.plain(instr)?;
+                Ok(false)
+            }
+        }
+    }
 }
 
 /// An expression, with its `end`.
 pub(crate) fn expr(alloc: Global, cursor: &mut Cursor<'_>) -> Result<Body, ReadFault>
     ensures { Gives (λ x. x) result cursor.new (expr_at cursor.old) }
 {
-    let _ = (alloc, cursor);
-    let _f = Frame { kind: Kind::Else(None, 0), outer: 0 };
-    Err(ReadFault::Memory)
+    let mut lists = Vec::new(alloc);
+    lists.push(Items::new(alloc))?;
+    let mut filling = Filling {
+        lists,
+        opens: Vec::new(alloc),
+        list: 0,
+    };
+    loop {
+        let last = filling.step(alloc, cursor)?;
+        if last {
+            return Ok(Body::new(filling.lists));
+        }
+    }
 }
