@@ -13,3 +13,4 @@ pub mod Standing
 pub mod Steps
 pub mod CodeSteps
 pub mod StepLaws
+pub mod SectionLemmas

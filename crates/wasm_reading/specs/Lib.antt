@@ -5,3 +5,4 @@ pub mod ReadModule
 pub mod Given
 pub mod Filling
 pub mod Reads
+pub mod Sections

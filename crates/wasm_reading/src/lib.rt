@@ -9,6 +9,7 @@ mod entries;
 mod exprs;
 mod fault;
 mod instrs;
+mod modules;
 mod parts;
 mod types;
 
