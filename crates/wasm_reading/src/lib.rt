@@ -14,6 +14,7 @@ mod parts;
 mod types;
 
 pub use fault::ReadFault;
+pub use modules::read;
 
 /// Bytes spell at most one module.
 pub fn bytes_spell_one_module()

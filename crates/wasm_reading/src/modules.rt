@@ -1,7 +1,8 @@
 // Modules: WebAssembly Core 1.0, section 5.5.
-ghost use Rattle.std.specs.Prelude.{◌≡◌, ℕ, List, [], ◌∷◌, length, Option};
+ghost use Rattle.std.specs.Prelude.{◌≡◌, ℕ, List, [], ◌∷◌, length, Option, IfOk};
 ghost use Rattle.std.specs.Option.{option_copied};
-ghost use Rattle.wasm_ast.specs.SpelledModule.{content_of, preamble};
+ghost use Rattle.wasm_ast.specs.SpelledModule.{content_of, SpellsModule};
+ghost use Rattle.wasm_ast.specs.declared.module.Module.{Module as SpelledModule};
 ghost use Rattle.wasm_reading.specs.Given.{Gives, Answers};
 ghost use Rattle.wasm_reading.specs.Reading.{each_at, vec_at};
 ghost use Rattle.wasm_reading.specs.ReadTypes.{table_at, memory_at};
@@ -14,6 +15,9 @@ use crate::types::{memory, table};
 use byte_cursor::Cursor;
 use std::alloc::Global;
 use wasm_ast::{Items, Limits, Module};
+
+/// The magic number and the version (5.5.15).
+const PREAMBLE: [u8; 8] = [0x00, 0x61, 0x73, 0x6D, 0x01, 0x00, 0x00, 0x00];
 
 /// A section: its number and its content (5.5.2).
 #[derive(Clone, Copy)]
@@ -173,4 +177,24 @@ fn module(alloc: Global, parts: &[Part<'_>]) -> Result<Module, ReadFault>
         codes,
         segments,
     })
+}
+
+/// The module that all the bytes spell.
+#[tactic(auto, unfolding(crate::specs::ReadModule::module_at, crate::specs::ReadModule::body_at))]
+fn whole(alloc: Global, bytes: &[u8]) -> Result<Module, ReadFault>
+    ensures { Answers (λ x. x) result (module_at bytes.now) }
+{
+    let mut cursor = Cursor::new(bytes);
+    skip(&mut cursor, &PREAMBLE)?;
+    let parts = sections(alloc, cursor.rest())?;
+    module(alloc, &parts)
+}
+
+/// The module that all the bytes spell (5.5). `Malformed` comes exactly where they spell none, and
+/// `Memory` for want of memory.
+pub fn read(alloc: Global, bytes: &[u8]) -> Result<Module, ReadFault>
+    ensures found { IfOk result (λ m. SpellsModule bytes.now m) }
+    ensures malformed { result ≡ Err ReadFault.Malformed → (m : SpelledModule) → SpellsModule bytes.now m → ⊥ }
+{
+    whole(alloc, bytes)
 }
