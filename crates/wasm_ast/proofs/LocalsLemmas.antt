@@ -4,7 +4,7 @@ use Rattle.std.proofs.Math.ListN.{set}
 use Rattle.wasm_ast.specs.declared.types.ValType.{ValType}
 use Rattle.wasm_ast.specs.declared.locals.LocalGroup.{LocalGroup}
 use Rattle.wasm_ast.specs.Types.{same_type}
-use Rattle.wasm_ast.specs.Locals.{total, joined, added, AreMerged, IsFollowedByOther, AreLocals}
+use Rattle.wasm_ast.specs.Locals.{total, joined, AreMerged, IsFollowedByOther, AreLocals}
 
 -- a further group joins the last, at i
 pub joined-last : (gs : List LocalGroup) (g d : LocalGroup) (i : ℕ) → suc i ≡ length gs →

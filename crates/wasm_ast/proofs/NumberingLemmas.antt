@@ -1,9 +1,9 @@
 -- The sequence of a numbered list is that of its instructions.
-use Rattle.std.proofs.Common.{◌≡◌, ℕ, zero, suc, ◌+◌, ◌<◌, ◌≤◌, List, [], ◌∷◌, length, get_or, refl, ap, arith, ◌∙◌, sym}
+use Rattle.std.proofs.Common.{◌≡◌, ℕ, zero, suc, ◌+◌, ◌<◌, ◌≤◌, List, [], ◌∷◌, length, refl, ap, arith, ◌∙◌, sym}
 use Rattle.wasm_ast.specs.declared.instr.Instr.{Instr}
 use Rattle.wasm_ast.specs.declared.instr.Instr.TheVariants as instr
-use Rattle.wasm_ast.specs.Sequence.{Sequence, Empty, Plain, Block, Loop, If}
-use Rattle.wasm_ast.specs.Numbering.{list_at, InstrNames, ListNames, IsNumbered, in_front, sequence, within, nested}
+use Rattle.wasm_ast.specs.Sequence.{Sequence, Block, Loop, If}
+use Rattle.wasm_ast.specs.Numbering.{list_at, InstrNames, ListNames, in_front, sequence, within, nested}
 
 -- inner sequences count only where they are named
 in_front-agree : (F G : ℕ → Sequence) (i : Instr) (s : Sequence) → InstrNames (λ m. F m ≡ G m) i → in_front F i s ≡ in_front G i s
@@ -41,7 +41,7 @@ module _ (lists : List (List Instr)) (inner : (n : ℕ) → ListNames (λ m. (n 
   within-deep (suc d) (suc e) n h k =
       sequence-agree (within lists d) (within lists e) (list_at lists n)
       (list_names (λ m. (n < m) × (m < length lists)) (λ m. within lists d m ≡ within lists e m) (list_at lists n)
-        (λ m p. within-deep d e m (omega (arith, p.0)) (omega (arith, p.0))) (inner n))
+      (λ m p. within-deep d e m (omega (arith, p.0)) (omega (arith, p.0))) (inner n))
 
   pub nested-step : (n : ℕ) → nested lists n ≡ sequence (nested lists) (list_at lists n)
   unfolding nested within

@@ -5,7 +5,6 @@ use Rattle.wasm_ast.specs.declared.types.IntType.{IntType}
 use Rattle.wasm_ast.specs.declared.types.IntType.TheVariants as int
 use Rattle.wasm_ast.specs.declared.types.ValType.{ValType}
 use Rattle.wasm_ast.specs.declared.types.ValType.TheVariants.{I32, I64}
-use Rattle.wasm_ast.specs.declared.instr.ConvertOp.{ConvertOp}
 use Rattle.wasm_ast.specs.declared.instr.ConvertOp.TheVariants.{Wrap, ExtendS, ExtendU}
 use Rattle.wasm_ast.specs.declared.instr.NumericOp.{NumericOp}
 use Rattle.wasm_ast.specs.declared.instr.NumericOp.TheVariants.{Eqz, Compare, Unary, Binary, Convert}

@@ -1,7 +1,6 @@
 -- Instructions in the binary format: WebAssembly Core 1.0, section 5.4, and the threads proposal.
-use Rattle.std.specs.Prelude.{◌≡◌, ◌⊎◌, ℕ, ℤ, List, [], ◌∷◌, length, slice_index_or, Option}
+use Rattle.std.specs.Prelude.{◌≡◌, ◌⊎◌, ℕ, ℤ, List, [], ◌∷◌, length, slice_index_or}
 use Rattle.byte_cursor.specs.Integers.{SpellsSigned}
-use Rattle.wasm_ast.specs.declared.types.ValType.{ValType}
 use Rattle.wasm_ast.specs.declared.instr.Instr.{Instr}
 use Rattle.wasm_ast.specs.declared.instr.Instr.TheVariants as instr
 use Rattle.wasm_ast.specs.declared.instr.MemArg.{MemArg}
@@ -88,8 +87,8 @@ SpellsSequence bytes (Loop of body rest) =
     Opens op.Loop (Joined (λ a. SpellsBlockType a of) (Joined (λ b. SpellsSequence b body) (Opens op.End (λ c. SpellsSequence c rest)))) bytes
 SpellsSequence bytes (If of then otherwise rest) =
     Opens op.If (Joined (λ a. SpellsBlockType a of) (λ x.
-      (Joined (λ b. SpellsSequence b then) (Opens op.End (λ c. SpellsSequence c rest)) x × (otherwise ≡ Empty))
-      ⊎ Joined (λ b. SpellsSequence b then) (Opens op.Else (Joined (λ c. SpellsSequence c otherwise) (Opens op.End (λ d. SpellsSequence d rest)))) x)) bytes
+    (Joined (λ b. SpellsSequence b then) (Opens op.End (λ c. SpellsSequence c rest)) x × (otherwise ≡ Empty))
+    ⊎ Joined (λ b. SpellsSequence b then) (Opens op.Else (Joined (λ c. SpellsSequence c otherwise) (Opens op.End (λ d. SpellsSequence d rest)))) x)) bytes
 
 -- expr (5.4.6)
 abbrev pub SpellsExpr : List ℕ → Sequence → Type 0

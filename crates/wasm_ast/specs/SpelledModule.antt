@@ -1,6 +1,5 @@
 -- Modules in the binary format: WebAssembly Core 1.0, section 5.5.
 use Rattle.std.specs.Prelude.{◌≡◌, ◌⊎◌, ℕ, ◌+◌, ◌<◌, ◌≤◌, ◌^◌, ◌==◌, if◌then◌else◌, List, [], ◌∷◌, ◌++◌, length, Option, Some, None, MatchOption}
-use Rattle.wasm_ast.specs.declared.types.FuncType.{FuncType}
 use Rattle.wasm_ast.specs.declared.locals.LocalGroup.{LocalGroup}
 use Rattle.wasm_ast.specs.declared.module.ImportKind.{ImportKind}
 use Rattle.wasm_ast.specs.declared.module.ImportKind.TheVariants as imported

@@ -1,6 +1,6 @@
 -- Parts of the binary format: WebAssembly Core 1.0, sections 5.1 and 5.2. Each is a relation between
 -- bytes and what they spell; bytes of several parts are split.
-use Rattle.std.specs.Prelude.{◌≡◌, ℕ, ◌<◌, ◌^◌, List, [], ◌∷◌, ◌++◌, length, IsUtf8}
+use Rattle.std.specs.Prelude.{◌≡◌, ℕ, List, [], ◌∷◌, ◌++◌, length, IsUtf8}
 use Rattle.byte_cursor.specs.Integers.{SpellsUnsigned}
 
 -- a front with one property, and the rest with another

@@ -42,10 +42,10 @@ code_open lists wider fs more list n k e w l os before o st b =
     let f : Frame = record { kind = k; outer = list } in
     let m = begin_means (lists ++ [] ∷ []) k o before b in
     let s : Stands (lists ++ [] ∷ []) (f ∷ reverse fs) (length lists) (o ∷ os) Empty =
-      stands_open lists (reverse fs) list os before k o st (begin_waiting k o before (unnamed list (reverse fs)) b) (begin_arm k o before list (length lists) b) m.0 m.1 in
+    stands_open lists (reverse fs) list os before k o st (begin_waiting k o before (unnamed list (reverse fs)) b) (begin_arm k o before list (length lists) b) m.0 m.1 in
     subst (λ x. Stands x (reverse more) n (o ∷ os) Empty) (sym w)
     (subst (λ x. Stands (lists ++ [] ∷ []) x n (o ∷ os) Empty) (sym (ap reverse e ∙ reverse_last fs f))
-      (subst (λ x. Stands (lists ++ [] ∷ []) (f ∷ reverse fs) x (o ∷ os) Empty) (sym l) s))
+    (subst (λ x. Stands (lists ++ [] ∷ []) (f ∷ reverse fs) x (o ∷ os) Empty) (sym l) s))
 
 -- the second arm of an if begins
 turned : (lists : List (List Instr)) (fs : List Frame) (list outer : ℕ) (of : Option ValType) (os : List Open) (before : Sequence) →
@@ -73,7 +73,7 @@ code_turn lists wider fs mid more list n outer of e m w l os before st =
     let s : Stands lists (f ∷ reverse mid) list os before = subst (λ x. Stands lists x list os before) (ap reverse e ∙ reverse_last mid f) st in
     turns_weaker (λ os b. Stands (lists ++ [] ∷ []) (g ∷ reverse mid) (length lists) os b) (λ os b. Stands wider (reverse more) n os b) os before
     (λ os b q. subst (λ x. Stands x (reverse more) n os b) (sym w)
-      (subst (λ x. Stands (lists ++ [] ∷ []) x n os b) (sym (ap reverse m ∙ reverse_last mid g)) (subst (λ x. Stands (lists ++ [] ∷ []) (g ∷ reverse mid) x os b) (sym l) q)))
+    (subst (λ x. Stands (lists ++ [] ∷ []) x n os b) (sym (ap reverse m ∙ reverse_last mid g)) (subst (λ x. Stands (lists ++ [] ∷ []) (g ∷ reverse mid) x os b) (sym l) q)))
     (turned lists (reverse mid) list outer of os before s)
 
 -- no frame of another kind turns

@@ -43,12 +43,14 @@ open_ran : (o : Opcode) (frame : Option ValType → Open) (opens : List Open) (b
     Ran n opens before (c ∷ (q ++ bytes)) (frame of ∷ opens) Empty bytes
 open_ran o frame opens before does n c q of bytes e s h =
     let m = begun n c (q ++ bytes) opens before h in
-    let l : length bytes ≤ m.0 = omega (arith, m.1, length-append q bytes) in
-    (m.0, l,
+    let l : length bytes ≤ m.0 = omega (arith, m.1, length-append q bytes) in (
+      m.0,
+      l,
       m.2
-      ∙ ap (λ p. behind_opcode (instrs_at m.0) p opens before (q ++ bytes)) e
-      ∙ does (instrs_at m.0) (q ++ bytes)
-      ∙ ap (λ x. and_then x (λ of rest. instrs_at m.0 (frame of ∷ opens) Empty rest)) (blocktype_exact.again q bytes of s))
+          ∙ ap (λ p. behind_opcode (instrs_at m.0) p opens before (q ++ bytes)) e
+          ∙ does (instrs_at m.0) (q ++ bytes)
+          ∙ ap (λ x. and_then x (λ of rest. instrs_at m.0 (frame of ∷ opens) Empty rest)) (blocktype_exact.again q bytes of s),
+    )
 
 -- an end
 end_ran : (frame : Open) (opens : List Open) (done next : Sequence) →
@@ -101,9 +103,9 @@ closes frame opens before one t r runs rest does next is n front (e ∷ back) mo
     then_ran n (frame ∷ opens) (frame ∷ opens) opens Empty t (append before next) (front ++ (e ∷ (back ++ more))) (e ∷ (back ++ more)) more
     (runs n (frame ∷ opens) Empty front (e ∷ (back ++ more)) st l)
     (λ m k. then_ran m (frame ∷ opens) opens opens t (append before one) (append before next) (e ∷ (back ++ more)) (back ++ more) more
-      (end_ran frame opens t (append before one) does m e (back ++ more) h.0 k)
-      (λ o j. subst (λ z. Ran o opens (append before one) (back ++ more) opens z more) (append-append before one r ∙ ap (λ z. append before z) is)
-        (rest o opens (append before one) back more h.1 j)))
+    (end_ran frame opens t (append before one) does m e (back ++ more) h.0 k)
+    (λ o j. subst (λ z. Ran o opens (append before one) (back ++ more) opens z more) (append-append before one r ∙ ap (λ z. append before z) is)
+    (rest o opens (append before one) back more h.1 j)))
 
 else_closes : (of : Option ValType) (opens : List Open) (before : Sequence) (t u r : Sequence) → Runs t → Runs u → Runs r →
     (n : ℕ) (front back more : List ℕ) → SpellsSequence front t → Opens op.Else (Joined (λ c. SpellsSequence c u) (Opens op.End (λ d. SpellsSequence d r))) back → length (front ++ (back ++ more)) ≤ n →
@@ -113,11 +115,11 @@ else_closes of opens before t u r first second rest n front (e ∷ back) more st
     then_ran n (InThen of before ∷ opens) (InThen of before ∷ opens) opens Empty t (append before (If of t u r)) (front ++ (e ∷ (back ++ more))) (e ∷ (back ++ more)) more
     (first n (InThen of before ∷ opens) Empty front (e ∷ (back ++ more)) st l)
     (λ m k. then_ran m (InThen of before ∷ opens) (InElse of t before ∷ opens) opens t Empty (append before (If of t u r)) (e ∷ (back ++ more)) (back ++ more) more
-      (else_ran of before opens t m e (back ++ more) h.0 k)
-      (λ o j.
-        let shape = split_more back h.1.front h.1.back more h.1.parts in
-        ran_at o (InElse of t before ∷ opens) opens Empty (append before (If of t u r)) (back ++ more) (h.1.front ++ (h.1.back ++ more)) more shape
-        (closes (InElse of t before) opens before (If of t u Empty) u r second rest (λ go bytes. refl) (If of t u r) refl o h.1.front h.1.back more h.1.first h.1.second (subst (λ b. length b ≤ o) shape j))))
+    (else_ran of before opens t m e (back ++ more) h.0 k)
+    (λ o j.
+    let shape = split_more back h.1.front h.1.back more h.1.parts in
+    ran_at o (InElse of t before ∷ opens) opens Empty (append before (If of t u r)) (back ++ more) (h.1.front ++ (h.1.back ++ more)) more shape
+    (closes (InElse of t before) opens before (If of t u Empty) u r second rest (λ go bytes. refl) (If of t u r) refl o h.1.front h.1.back more h.1.first h.1.second (subst (λ b. length b ≤ o) shape j))))
 
 -- an opening byte, a block type and what stands behind
 opened_ran : (o : Opcode) (frame : Option ValType → Open) (opens : List Open) (before next : Sequence) (of : Option ValType) (P : List ℕ → Type 0) →
@@ -129,8 +131,8 @@ opened_ran o frame opens before next of P does n (c ∷ a) more h l k =
     let shape : c ∷ (a ++ more) ≡ c ∷ (h.1.front ++ (h.1.back ++ more)) = ap (λ b. c ∷ b) (split_more a h.1.front h.1.back more h.1.parts) in
     ran_at n opens opens before next (c ∷ (a ++ more)) (c ∷ (h.1.front ++ (h.1.back ++ more))) more shape
     (then_ran n opens (frame of ∷ opens) opens before Empty next (c ∷ (h.1.front ++ (h.1.back ++ more))) (h.1.back ++ more) more
-      (open_ran o frame opens before does n c h.1.front of (h.1.back ++ more) h.0 h.1.first (subst (λ b. length b ≤ n) shape l))
-      (λ m j. k m h.1.back h.1.second j))
+    (open_ran o frame opens before does n c h.1.front of (h.1.back ++ more) h.0 h.1.first (subst (λ b. length b ≤ n) shape l))
+    (λ m j. k m h.1.back h.1.second j))
 
 sequence_runs : (t : Sequence) → Runs t
 sequence_runs Empty n opens before a more s h =
@@ -140,36 +142,36 @@ sequence_runs (Plain i r) n opens before a more s h =
     let shape = split_more a s.front s.back more s.parts in
     ran_at n opens opens before (append before (Plain i r)) (a ++ more) (s.front ++ (s.back ++ more)) more shape
     (then_ran n opens opens opens before (append before (Plain i Empty)) (append before (Plain i r)) (s.front ++ (s.back ++ more)) (s.back ++ more) more
-      (plain_ran i s.front (s.back ++ more) n opens before s.first (subst (λ b. length b ≤ n) shape h))
-      (λ m k. subst (λ z. Ran m opens (append before (Plain i Empty)) (s.back ++ more) opens z more) (append-append before (Plain i Empty) r)
-        (sequence_runs r m opens (append before (Plain i Empty)) s.back more s.second k)))
+    (plain_ran i s.front (s.back ++ more) n opens before s.first (subst (λ b. length b ≤ n) shape h))
+    (λ m k. subst (λ z. Ran m opens (append before (Plain i Empty)) (s.back ++ more) opens z more) (append-append before (Plain i Empty) r)
+    (sequence_runs r m opens (append before (Plain i Empty)) s.back more s.second k)))
 sequence_runs (Block of body r) n opens before a more s h =
     opened_ran op.Block (λ of. InBlock of before) opens before (append before (Block of body r)) of (Joined (λ b. SpellsSequence b body) (Opens op.End (λ c. SpellsSequence c r))) (λ go bytes. refl) n a more s h
     (λ m x j l.
-      let shape = split_more x j.front j.back more j.parts in
-      ran_at m (InBlock of before ∷ opens) opens Empty (append before (Block of body r)) (x ++ more) (j.front ++ (j.back ++ more)) more shape
-      (closes (InBlock of before) opens before (Block of body Empty) body r (sequence_runs body) (sequence_runs r) (λ go bytes. refl) (Block of body r) refl m j.front j.back more j.first j.second (subst (λ b. length b ≤ m) shape l)))
+    let shape = split_more x j.front j.back more j.parts in
+    ran_at m (InBlock of before ∷ opens) opens Empty (append before (Block of body r)) (x ++ more) (j.front ++ (j.back ++ more)) more shape
+    (closes (InBlock of before) opens before (Block of body Empty) body r (sequence_runs body) (sequence_runs r) (λ go bytes. refl) (Block of body r) refl m j.front j.back more j.first j.second (subst (λ b. length b ≤ m) shape l)))
 sequence_runs (Loop of body r) n opens before a more s h =
     opened_ran op.Loop (λ of. InLoop of before) opens before (append before (Loop of body r)) of (Joined (λ b. SpellsSequence b body) (Opens op.End (λ c. SpellsSequence c r))) (λ go bytes. refl) n a more s h
     (λ m x j l.
-      let shape = split_more x j.front j.back more j.parts in
-      ran_at m (InLoop of before ∷ opens) opens Empty (append before (Loop of body r)) (x ++ more) (j.front ++ (j.back ++ more)) more shape
-      (closes (InLoop of before) opens before (Loop of body Empty) body r (sequence_runs body) (sequence_runs r) (λ go bytes. refl) (Loop of body r) refl m j.front j.back more j.first j.second (subst (λ b. length b ≤ m) shape l)))
+    let shape = split_more x j.front j.back more j.parts in
+    ran_at m (InLoop of before ∷ opens) opens Empty (append before (Loop of body r)) (x ++ more) (j.front ++ (j.back ++ more)) more shape
+    (closes (InLoop of before) opens before (Loop of body Empty) body r (sequence_runs body) (sequence_runs r) (λ go bytes. refl) (Loop of body r) refl m j.front j.back more j.first j.second (subst (λ b. length b ≤ m) shape l)))
 sequence_runs (If of one two r) n opens before a more s h =
     opened_ran op.If (λ of. InThen of before) opens before (append before (If of one two r)) of
     (λ x. (Joined (λ b. SpellsSequence b one) (Opens op.End (λ c. SpellsSequence c r)) x × (two ≡ Empty))
-      ⊎ Joined (λ b. SpellsSequence b one) (Opens op.Else (Joined (λ c. SpellsSequence c two) (Opens op.End (λ d. SpellsSequence d r)))) x)
+    ⊎ Joined (λ b. SpellsSequence b one) (Opens op.Else (Joined (λ c. SpellsSequence c two) (Opens op.End (λ d. SpellsSequence d r)))) x)
     (λ go bytes. refl) n a more s h
     (λ m x p l. elim p [
-      inl w ↦
-        let shape = split_more x w.0.front w.0.back more w.0.parts in
-        subst (λ z. Ran m (InThen of before ∷ opens) Empty (x ++ more) opens (append before (If of one z r)) more) (sym w.1)
-        (ran_at m (InThen of before ∷ opens) opens Empty (append before (If of one Empty r)) (x ++ more) (w.0.front ++ (w.0.back ++ more)) more shape
+      | inl w ↦
+          let shape = split_more x w.0.front w.0.back more w.0.parts in
+          subst (λ z. Ran m (InThen of before ∷ opens) Empty (x ++ more) opens (append before (If of one z r)) more) (sym w.1)
+          (ran_at m (InThen of before ∷ opens) opens Empty (append before (If of one Empty r)) (x ++ more) (w.0.front ++ (w.0.back ++ more)) more shape
           (closes (InThen of before) opens before (If of one Empty Empty) one r (sequence_runs one) (sequence_runs r) (λ go bytes. refl) (If of one Empty r) refl m w.0.front w.0.back more w.0.first w.0.second (subst (λ b. length b ≤ m) shape l)))
-    | inr w ↦
-        let shape = split_more x w.front w.back more w.parts in
-        ran_at m (InThen of before ∷ opens) opens Empty (append before (If of one two r)) (x ++ more) (w.front ++ (w.back ++ more)) more shape
-        (else_closes of opens before one two r (sequence_runs one) (sequence_runs two) (sequence_runs r) m w.front w.back more w.first w.second (subst (λ b. length b ≤ m) shape l))
+      | inr w ↦
+          let shape = split_more x w.front w.back more w.parts in
+          ran_at m (InThen of before ∷ opens) opens Empty (append before (If of one two r)) (x ++ more) (w.front ++ (w.back ++ more)) more shape
+          (else_closes of opens before one two r (sequence_runs one) (sequence_runs two) (sequence_runs r) m w.front w.back more w.first w.second (subst (λ b. length b ≤ m) shape l))
     ])
 
 last_end : (s : Sequence) (n : ℕ) (back rest : List ℕ) → Opens op.End (λ c. c ≡ []) back → length (back ++ rest) ≤ n → instrs_at n [] s (back ++ rest) ≡ Some (s, rest)

@@ -37,14 +37,16 @@ rest_now after before bytes h =
 
 rest_plain : (after : Sequence → List ℕ → Type 0) (before : Sequence) (i : Instr) (p b : List ℕ) → SpellsPlain p i → Rest after (append before (Plain i Empty)) b → Rest after before (p ++ b)
 rest_plain after before i p b sp h =
-    let j = h.1 in
-    (Plain i h.0, record {
-      front = p ++ j.front;
-      back = j.back;
-      parts = ap (λ m. p ++ m) j.parts ∙ sym (append_assoc p j.front j.back);
-      first = record { front = p; back = j.front; parts = refl; first = sp; second = j.first };
-      second = subst (λ z. after z j.back) (append-append before (Plain i Empty) h.0) j.second
-    })
+    let j = h.1 in (
+      Plain i h.0,
+      record {
+        front = p ++ j.front;
+        back = j.back;
+        parts = ap (λ m. p ++ m) j.parts ∙ sym (append_assoc p j.front j.back);
+        first = record { front = p; back = j.front; parts = refl; first = sp; second = j.first };
+        second = subst (λ z. after z j.back) (append-append before (Plain i Empty) h.0) j.second;
+      },
+    )
 
 regrouped : (q front : List ℕ) (e : ℕ) (inner back more : List ℕ) → more ≡ inner ++ back → q ++ (front ++ e ∷ more) ≡ (q ++ (front ++ e ∷ inner)) ++ back
 regrouped q front e inner back more h =
@@ -54,54 +56,83 @@ module _ (after : Sequence → List ℕ → Type 0) (before : Sequence) (of : Op
   block_parts : opcode_at c ≡ op.Block → (t : Sequence) (front back : List ℕ) → SpellsSequence front t → Opens op.End (Rest after (append before (Block of t Empty))) back → Rest after before (c ∷ q ++ (front ++ back))
   block_parts o t front [] st h = absurd h
   block_parts o t front (e ∷ more) st h =
-      let j = h.1.1 in
-      (Block of t h.1.0, record {
-        front = c ∷ q ++ (front ++ e ∷ j.front);
-        back = j.back;
-        parts = ap (λ m. c ∷ m) (regrouped q front e j.front j.back more j.parts);
-        first = (o, record { front = q; back = front ++ e ∷ j.front; parts = refl; first = sq; second = record { front = front; back = e ∷ j.front; parts = refl; first = st; second = (h.0, j.first) } });
-        second = subst (λ z. after z j.back) (append-append before (Block of t Empty) h.1.0) j.second
-      })
+      let j = h.1.1 in (
+        Block of t h.1.0,
+        record {
+          front = c ∷ q ++ (front ++ e ∷ j.front);
+          back = j.back;
+          parts = ap (λ m. c ∷ m) (regrouped q front e j.front j.back more j.parts);
+          first = (o, record { front = q; back = front ++ e ∷ j.front; parts = refl; first = sq; second = record { front = front; back = e ∷ j.front; parts = refl; first = st; second = (h.0, j.first) } });
+          second = subst (λ z. after z j.back) (append-append before (Block of t Empty) h.1.0) j.second;
+        },
+      )
 
   loop_parts : opcode_at c ≡ op.Loop → (t : Sequence) (front back : List ℕ) → SpellsSequence front t → Opens op.End (Rest after (append before (Loop of t Empty))) back → Rest after before (c ∷ q ++ (front ++ back))
   loop_parts o t front [] st h = absurd h
   loop_parts o t front (e ∷ more) st h =
-      let j = h.1.1 in
-      (Loop of t h.1.0, record {
-        front = c ∷ q ++ (front ++ e ∷ j.front);
-        back = j.back;
-        parts = ap (λ m. c ∷ m) (regrouped q front e j.front j.back more j.parts);
-        first = (o, record { front = q; back = front ++ e ∷ j.front; parts = refl; first = sq; second = record { front = front; back = e ∷ j.front; parts = refl; first = st; second = (h.0, j.first) } });
-        second = subst (λ z. after z j.back) (append-append before (Loop of t Empty) h.1.0) j.second
-      })
+      let j = h.1.1 in (
+        Loop of t h.1.0,
+        record {
+          front = c ∷ q ++ (front ++ e ∷ j.front);
+          back = j.back;
+          parts = ap (λ m. c ∷ m) (regrouped q front e j.front j.back more j.parts);
+          first = (o, record { front = q; back = front ++ e ∷ j.front; parts = refl; first = sq; second = record { front = front; back = e ∷ j.front; parts = refl; first = st; second = (h.0, j.first) } });
+          second = subst (λ z. after z j.back) (append-append before (Loop of t Empty) h.1.0) j.second;
+        },
+      )
 
   if_parts : opcode_at c ≡ op.If → (t : Sequence) (front back : List ℕ) → SpellsSequence front t → Opens op.End (Rest after (append before (If of t Empty Empty))) back → Rest after before (c ∷ q ++ (front ++ back))
   if_parts o t front [] st h = absurd h
   if_parts o t front (e ∷ more) st h =
-      let j = h.1.1 in
-      (If of t Empty h.1.0, record {
-        front = c ∷ q ++ (front ++ e ∷ j.front);
-        back = j.back;
-        parts = ap (λ m. c ∷ m) (regrouped q front e j.front j.back more j.parts);
-        first = (o, record { front = q; back = front ++ e ∷ j.front; parts = refl; first = sq;
-          second = inl (record { front = front; back = e ∷ j.front; parts = refl; first = st; second = (h.0, j.first) }, refl) });
-        second = subst (λ z. after z j.back) (append-append before (If of t Empty Empty) h.1.0) j.second
-      })
+      let j = h.1.1 in (
+        If of t Empty h.1.0,
+        record {
+          front = c ∷ q ++ (front ++ e ∷ j.front);
+          back = j.back;
+          parts = ap (λ m. c ∷ m) (regrouped q front e j.front j.back more j.parts);
+          first = (
+            o,
+            record {
+              front = q;
+              back = front ++ e ∷ j.front;
+              parts = refl;
+              first = sq;
+              second = inl (record { front = front; back = e ∷ j.front; parts = refl; first = st; second = (h.0, j.first) }, refl);
+            },
+          );
+          second = subst (λ z. after z j.back) (append-append before (If of t Empty Empty) h.1.0) j.second;
+        },
+      )
 
   else_parts : opcode_at c ≡ op.If → (t : Sequence) (front : List ℕ) → SpellsSequence front t → (d : ℕ) → opcode_at d ≡ op.Else →
       (u : Sequence) (inner back : List ℕ) → SpellsSequence inner u → Opens op.End (Rest after (append before (If of t u Empty))) back → Rest after before (c ∷ q ++ (front ++ d ∷ (inner ++ back)))
   else_parts o t front st d od u inner [] su h = absurd h
   else_parts o t front st d od u inner (e ∷ more) su h =
-      let j = h.1.1 in
-      (If of t u h.1.0, record {
-        front = c ∷ q ++ (front ++ d ∷ (inner ++ e ∷ j.front));
-        back = j.back;
-        parts = ap (λ m. c ∷ m) (regrouped q front d (inner ++ e ∷ j.front) j.back (inner ++ e ∷ more) (ap (λ m. inner ++ e ∷ m) j.parts ∙ sym (append_assoc inner (e ∷ j.front) j.back)));
-        first = (o, record { front = q; back = front ++ d ∷ (inner ++ e ∷ j.front); parts = refl; first = sq;
-          second = inr (record { front = front; back = d ∷ (inner ++ e ∷ j.front); parts = refl; first = st;
-            second = (od, record { front = inner; back = e ∷ j.front; parts = refl; first = su; second = (h.0, j.first) }) }) });
-        second = subst (λ z. after z j.back) (append-append before (If of t u Empty) h.1.0) j.second
-      })
+      let j = h.1.1 in (
+        If of t u h.1.0,
+        record {
+          front = c ∷ q ++ (front ++ d ∷ (inner ++ e ∷ j.front));
+          back = j.back;
+          parts = ap (λ m. c ∷ m) (regrouped q front d (inner ++ e ∷ j.front) j.back (inner ++ e ∷ more) (ap (λ m. inner ++ e ∷ m) j.parts ∙ sym (append_assoc inner (e ∷ j.front) j.back)));
+          first = (
+            o,
+            record {
+              front = q;
+              back = front ++ d ∷ (inner ++ e ∷ j.front);
+              parts = refl;
+              first = sq;
+              second = inr (record {
+                front = front;
+                back = d ∷ (inner ++ e ∷ j.front);
+                parts = refl;
+                first = st;
+                second = (od, record { front = inner; back = e ∷ j.front; parts = refl; first = su; second = (h.0, j.first) });
+              });
+            },
+          );
+          second = subst (λ z. after z j.back) (append-append before (If of t u Empty) h.1.0) j.second;
+        },
+      )
 
   else_back : opcode_at c ≡ op.If → (t : Sequence) (front back : List ℕ) → SpellsSequence front t →
       Opens op.Else (Rest (λ two d. Opens op.End (Rest after (append before (If of t two Empty))) d) Empty) back → Rest after before (c ∷ q ++ (front ++ back))

@@ -19,7 +19,7 @@ module _ (n : ℕ) (start : List ℕ) where
   pub groups_none : (locals : List LocalGroup) → locals ≡ [] → GroupsBegun n start 0 0 locals start
   groups_none locals e = record {
     goes = λ m h. let same : m ≡ n = omega arith in ap (λ i. groups_at i 0 [] start) (sym same) ∙ ap (λ l. groups_at m 0 l start) (sym e);
-    counts = ap total e
+    counts = ap total e;
   }
 
   more_step : (m count : ℕ) (locals : List LocalGroup) (now rest : List ℕ) (g : LocalGroup) (b : Bool) → group_at now ≡ Some (g, rest) → nat_lt (count + g.count) (2 ^ 32) ≡ b →
@@ -32,9 +32,9 @@ module _ (n : ℕ) (start : List ℕ) where
       count + g.count < 2 ^ 32 → more ≡ added locals g → GroupsBegun n start (k + 1) (count + g.count) more rest
   groups_more k count locals more now rest g b h l e = record {
     goes = λ m q.
-      b.goes (suc m) (omega arith) ∙ more_step m count locals now rest g true h (lt-ltb (count + g.count) (2 ^ 32) l)
-      ∙ ap (λ ls. groups_at m (count + g.count) ls rest) (sym e);
-    counts = ap total e ∙ total-added locals g _ refl ∙ ap (λ c. c + g.count) b.counts
+        b.goes (suc m) (omega arith) ∙ more_step m count locals now rest g true h (lt-ltb (count + g.count) (2 ^ 32) l)
+        ∙ ap (λ ls. groups_at m (count + g.count) ls rest) (sym e);
+    counts = ap total e ∙ total-added locals g _ refl ∙ ap (λ c. c + g.count) b.counts;
   }
 
   pub groups_many : (k count : ℕ) (locals : List LocalGroup) (now rest : List ℕ) (g : LocalGroup) → GroupsBegun n start k count locals now → k < n → group_at now ≡ Some (g, rest) →

@@ -25,7 +25,7 @@ Nothing x bytes y = (bytes ≡ []) × (y ≡ x)
 nothing_exact : {X : Type 0} (x : X) → IsExact (Nothing x) (nothing_at x)
 nothing_exact {X} x = record {
   takes = λ bytes y rest h. ([], (refl, ap (λ z. z.0) (sym (some_is _ _ h))), ap (λ z. z.1) (some_is _ _ h));
-  again = λ front rest y h. ap (λ b. Some (x, b ++ rest)) h.0 ∙ ap (λ z. Some (z, rest)) (sym h.1)
+  again = λ front rest y h. ap (λ b. Some (x, b ++ rest)) h.0 ∙ ap (λ z. Some (z, rest)) (sym h.1);
 }
 
 abbrev Zero : {X : Type 0} → X → List ℕ → X → Type 0
@@ -65,6 +65,7 @@ atomic_exact = record { takes = takes; again = again } where
   takes : (bytes : List ℕ) (i : Instr) (rest : List ℕ) → atomic_instr_at bytes ≡ Some (i, rest) → BeginsWith SpellsAtomic bytes i rest
   takes [] i rest h = cc
   takes (b ∷ bytes) i rest h = let t = (atomic_immediates_exact (atomic_at b)).takes bytes i rest h in (b ∷ t.0, t.1, ap (λ m. b ∷ m) t.2)
+
   again : (front rest : List ℕ) (i : Instr) → SpellsAtomic front i → atomic_instr_at (front ++ rest) ≡ Some (i, rest)
   again [] rest i h = absurd h
   again (b ∷ front) rest i h = (atomic_immediates_exact (atomic_at b)).again front rest i h

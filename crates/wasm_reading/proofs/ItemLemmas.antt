@@ -24,16 +24,20 @@ pub record Begun {X : Type 0} (r : List ℕ → Option (X × List ℕ)) (n : ℕ
 
 module _ {X : Type 0} (r : List ℕ → Option (X × List ℕ)) (n : ℕ) (start : List ℕ) where
   pub begun_none : (items : List X) → items ≡ [] → Begun r n start 0 items start
-  begun_none items e = record { goes = λ m h.
-    let same : m ≡ n = omega arith in
-    ap (λ i. each_at r i start) (sym same) ∙ sym (front_none (each_at r m start)) ∙ ap (λ i. with_front i (each_at r m start)) (sym e) }
+  begun_none items e = record {
+    goes = λ m h.
+        let same : m ≡ n = omega arith in
+        ap (λ i. each_at r i start) (sym same) ∙ sym (front_none (each_at r m start)) ∙ ap (λ i. with_front i (each_at r m start)) (sym e);
+  }
 
   pub begun_more : (k : ℕ) (items more : List X) (now rest : List ℕ) (x : X) → Begun r n start k items now → r now ≡ Some (x, rest) → more ≡ items ++ x ∷ [] → Begun r n start (k + 1) more rest
-  begun_more k items more now rest x b h e = record { goes = λ m l.
-    b.goes (suc m) (omega arith)
-    ∙ ap (λ o. with_front items (and_then o (λ x mid. and_then (each_at r m mid) (λ xs rest. Some (x ∷ xs, rest))))) h
-    ∙ front_more items x (each_at r m rest)
-    ∙ ap (λ i. with_front i (each_at r m rest)) (sym e) }
+  begun_more k items more now rest x b h e = record {
+    goes = λ m l.
+        b.goes (suc m) (omega arith)
+        ∙ ap (λ o. with_front items (and_then o (λ x mid. and_then (each_at r m mid) (λ xs rest. Some (x ∷ xs, rest))))) h
+        ∙ front_more items x (each_at r m rest)
+        ∙ ap (λ i. with_front i (each_at r m rest)) (sym e);
+  }
 
   pub begun_none_left : (k : ℕ) (items : List X) (now : List ℕ) → Begun r n start k items now → k < n → r now ≡ None → each_at r n start ≡ None
   begun_none_left k items now b l h =

@@ -55,24 +55,27 @@ sections_take (suc n) next (b ∷ bytes) ss h =
     let t = bytes_exact.takes bytes u.0 u.1 u.2 in
     let s : Section = record { id = b; content = u.0 } in
     elim (chosen (b == 0) _ _ (Some ss) u.3) [
-      inl w ↦
-        let c = chose_some (is_some (name_at u.0)) (with_section b u.0 (sections_at n next u.1)) ss w.1 in
-        let m = map_some (λ ss. s ∷ ss) (sections_at n next u.1) ss c.1 in
-        let r = sections_take n next u.1 m.0 m.1 in
-        subst (λ z. SpellsEach SpellsSection (b ∷ bytes) z × InOrder next z) m.2
-        (record { front = b ∷ t.0; back = u.1; parts = ap (λ a. b ∷ a) t.2; first = (refl, t.1); second = r.0 },
-          inl (eqb-true b 0 w.0, custom_of u.0 (name_at u.0) refl c.0, r.1))
-    | inr w ↦ elim (chosen (nat_lt b next) None _ (Some ss) w.1) [
-        inl v ↦ let no : None ≡ Some ss = v.1 in cc
-      | inr v ↦ elim (chosen (nat_lt 11 b) None (with_section b u.0 (sections_at n (b + 1) u.1)) (Some ss) v.1) [
-          inl x ↦ let no : None ≡ Some ss = x.1 in cc
-        | inr x ↦
-          let m = map_some (λ ss. s ∷ ss) (sections_at n (b + 1) u.1) ss x.1 in
-          let r = sections_take n (b + 1) u.1 m.0 m.1 in
-          subst (λ z. SpellsEach SpellsSection (b ∷ bytes) z × InOrder next z) m.2
-          (record { front = b ∷ t.0; back = u.1; parts = ap (λ a. b ∷ a) t.2; first = (refl, t.1); second = r.0 },
-            inr (positive b w.0, ltb-false b next v.0, ltb-false 11 b x.0, r.1))
-        ] ]
+      | inl w ↦
+          let c = chose_some (is_some (name_at u.0)) (with_section b u.0 (sections_at n next u.1)) ss w.1 in
+          let m = map_some (λ ss. s ∷ ss) (sections_at n next u.1) ss c.1 in
+          let r = sections_take n next u.1 m.0 m.1 in
+          subst (λ z. SpellsEach SpellsSection (b ∷ bytes) z × InOrder next z) m.2 (
+            record { front = b ∷ t.0; back = u.1; parts = ap (λ a. b ∷ a) t.2; first = (refl, t.1); second = r.0 },
+            inl (eqb-true b 0 w.0, custom_of u.0 (name_at u.0) refl c.0, r.1),
+          )
+      | inr w ↦ elim (chosen (nat_lt b next) None _ (Some ss) w.1) [
+        | inl v ↦ let no : None ≡ Some ss = v.1 in cc
+        | inr v ↦ elim (chosen (nat_lt 11 b) None (with_section b u.0 (sections_at n (b + 1) u.1)) (Some ss) v.1) [
+          | inl x ↦ let no : None ≡ Some ss = x.1 in cc
+          | inr x ↦
+              let m = map_some (λ ss. s ∷ ss) (sections_at n (b + 1) u.1) ss x.1 in
+              let r = sections_take n (b + 1) u.1 m.0 m.1 in
+              subst (λ z. SpellsEach SpellsSection (b ∷ bytes) z × InOrder next z) m.2 (
+                record { front = b ∷ t.0; back = u.1; parts = ap (λ a. b ∷ a) t.2; first = (refl, t.1); second = r.0 },
+                inr (positive b w.0, ltb-false b next v.0, ltb-false 11 b x.0, r.1),
+              )
+        ]
+      ]
     ]
 
 none_left : (n next : ℕ) → sections_at n next [] ≡ Some []
@@ -102,11 +105,11 @@ section_again s ss (suc n) next (b ∷ front) back h l k o =
     let few : length back ≤ n = omega (arith, l, length-append front back) in
     ap (λ r. and_then r (λ content rest. placed next b content (sections_at n next rest) (sections_at n (b + 1) rest))) (bytes_exact.again front back s.content h.1)
     ∙ elim o [
-      inl w ↦ placed_custom next b s.content (sections_at n next back) (sections_at n (b + 1) back) (h.0 ∙ w.0) w.1 ∙ section_is b s ss (sections_at n next back) h.0 (k n next few w.2)
-    | inr w ↦
-        let same : s.id ≡ b = sym h.0 in
-        placed_known next b s.content (sections_at n next back) (sections_at n (b + 1) back) (omega (arith, same, w.0)) (omega (arith, same, w.1)) (omega (arith, same, w.2))
-        ∙ section_is b s ss (sections_at n (b + 1) back) h.0 (k n (b + 1) few (subst (λ i. InOrder (i + 1) ss) same w.3))
+      | inl w ↦ placed_custom next b s.content (sections_at n next back) (sections_at n (b + 1) back) (h.0 ∙ w.0) w.1 ∙ section_is b s ss (sections_at n next back) h.0 (k n next few w.2)
+      | inr w ↦
+          let same : s.id ≡ b = sym h.0 in
+          placed_known next b s.content (sections_at n next back) (sections_at n (b + 1) back) (omega (arith, same, w.0)) (omega (arith, same, w.1)) (omega (arith, same, w.2))
+          ∙ section_is b s ss (sections_at n (b + 1) back) h.0 (k n (b + 1) few (subst (λ i. InOrder (i + 1) ss) same w.3))
     ]
 
 sections_again : (ss : List Section) (n next : ℕ) (bytes : List ℕ) → length bytes ≤ n → SpellsEach SpellsSection bytes ss → InOrder next ss → sections_at n next bytes ≡ Some ss
@@ -174,7 +177,11 @@ module_takes bytes m h =
     let b9 = both_some _ _ f.0.1.1.1.1.1.1.1.1 b8.1 in
     let b10 = both_some _ _ f.0.1.1.1.1.1.1.1.1.1 b9.1 in
     subst (λ z. SpellsModule bytes z) (some_is _ _ c.1) (record {
-      sections = ss; body = p.0; begins = preamble_takes preamble bytes p.0 p.1; parts = t.0; order = t.1;
+      sections = ss;
+      body = p.0;
+      begins = preamble_takes preamble bytes p.0 p.1;
+      parts = t.0;
+      order = t.1;
       types = held_takes functype_exact 1 ss _ b1.0;
       imports = held_takes import_exact 2 ss _ b2.0;
       functions = held_takes u32_exact 3 ss _ b3.0;
@@ -186,7 +193,7 @@ module_takes bytes m h =
       elements = held_takes element_exact 9 ss _ b9.0;
       codes = held_takes code_exact 10 ss _ b10.0;
       segments = held_takes segment_exact 11 ss _ b10.1;
-      counts = eqb-true _ _ c.0
+      counts = eqb-true _ _ c.0;
     })
 
 -- what is spelled as a module is read so
@@ -195,16 +202,16 @@ unfolding module_at body_at module_of
 module_again bytes m h =
     let ss = h.sections in
     let fields : fields_of ss ≡ Some (m.types, (m.imports, (m.functions, (m.tables, (m.memories, (m.globals, (m.exports, (m.start, (m.elements, (m.codes, m.segments)))))))))) =
-      both_again _ _ _ _ (held_again functype_exact 1 ss m.types h.types)
-      (both_again _ _ _ _ (held_again import_exact 2 ss m.imports h.imports)
-      (both_again _ _ _ _ (held_again u32_exact 3 ss m.functions h.functions)
-      (both_again _ _ _ _ (held_again table_exact 4 ss m.tables h.tables)
-      (both_again _ _ _ _ (held_again memory_exact 5 ss m.memories h.memories)
-      (both_again _ _ _ _ (held_again global_exact 6 ss m.globals h.globals)
-      (both_again _ _ _ _ (held_again export_exact 7 ss m.exports h.exports)
-      (both_again _ _ _ _ (start_again ss m.start h.start)
-      (both_again _ _ _ _ (held_again element_exact 9 ss m.elements h.elements)
-      (both_again _ _ _ _ (held_again code_exact 10 ss m.codes h.codes) (held_again segment_exact 11 ss m.segments h.segments)))))))))) in
+    both_again _ _ _ _ (held_again functype_exact 1 ss m.types h.types)
+    (both_again _ _ _ _ (held_again import_exact 2 ss m.imports h.imports)
+    (both_again _ _ _ _ (held_again u32_exact 3 ss m.functions h.functions)
+    (both_again _ _ _ _ (held_again table_exact 4 ss m.tables h.tables)
+    (both_again _ _ _ _ (held_again memory_exact 5 ss m.memories h.memories)
+    (both_again _ _ _ _ (held_again global_exact 6 ss m.globals h.globals)
+    (both_again _ _ _ _ (held_again export_exact 7 ss m.exports h.exports)
+    (both_again _ _ _ _ (start_again ss m.start h.start)
+    (both_again _ _ _ _ (held_again element_exact 9 ss m.elements h.elements)
+    (both_again _ _ _ _ (held_again code_exact 10 ss m.codes h.codes) (held_again segment_exact 11 ss m.segments h.segments)))))))))) in
     ap (λ b. option_and_then body_at (preamble_at preamble b)) h.begins
     ∙ ap (λ o. option_and_then body_at o) (preamble_again preamble h.body)
     ∙ ap (λ o. option_and_then module_of o) (sections_again ss (length h.body) 1 h.body (omega arith) h.parts h.order)

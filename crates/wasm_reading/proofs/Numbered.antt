@@ -144,11 +144,11 @@ names_none n [] h = tt
 names_none n (i ∷ is) h =
     let both : occurs n (names i) + occurs n (flat_map names is) ≡ 0 = sym (occurs-append n (names i) (flat_map names is)) ∙ h in
     (instr_none i (omega arith), names_none n is (omega arith)) where
-  instr_none : (i : Instr) → occurs n (names i) ≡ 0 → InstrNames (λ m. m ≢ n) i
-  instr_none (instr.Block of m) h = (one_none n m [] h).0
-  instr_none (instr.Loop of m) h = (one_none n m [] h).0
-  instr_none (instr.If of m k) h = let p = one_none n m (k ∷ []) h in (p.0, (one_none n k [] p.1).0)
-  instr_none _ h = tt
+      instr_none : (i : Instr) → occurs n (names i) ≡ 0 → InstrNames (λ m. m ≢ n) i
+      instr_none (instr.Block of m) h = (one_none n m [] h).0
+      instr_none (instr.Loop of m) h = (one_none n m [] h).0
+      instr_none (instr.If of m k) h = let p = one_none n m (k ∷ []) h in (p.0, (one_none n k [] p.1).0)
+      instr_none _ h = tt
 
 -- what is never named is named in no list
 pub never_named : (lists : List (List Instr)) (n : ℕ) → times_named lists n ≡ 0 → (k : ℕ) → ListNames (λ m. m ≢ n) (list_at lists k)
@@ -161,7 +161,7 @@ never_named (is ∷ lists) n h (suc k) =
     never_named lists n (omega arith) k
 
 apart_none : (n m : ℕ) (ms : List ℕ) → m < n → occurs n ms ≡ 0 → occurs n (m ∷ ms) ≡ 0
-apart_none n m ms l h = occurs-cons n m ms ∙ ap (λ b. cond b 1 0 + occurs n ms) (ne_eqb m n (λ e. omega arith)) ∙ h'  where
+apart_none n m ms l h = occurs-cons n m ms ∙ ap (λ b. cond b 1 0 + occurs n ms) (ne_eqb m n (λ e. omega arith)) ∙ h' where
   h' : 0 + occurs n ms ≡ 0
   h' = omega arith
 

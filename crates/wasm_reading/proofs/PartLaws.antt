@@ -38,11 +38,20 @@ kind_again {X} {Y} {S} {r} f e front rest x h = ap (λ o. and_then o (λ x rest.
 import_kind_takes : (bytes : List ℕ) (k : ImportKind) (rest : List ℕ) → import_kind_at bytes ≡ Some (k, rest) → BeginsWith SpellsImportKind bytes k rest
 import_kind_takes [] k rest h = cc
 import_kind_takes (b ∷ bytes) k rest h =
-    elim (chosen (b == 0x00) _ _ (Some (k, rest)) h) [ inl w ↦ kind_takes SpellsImportKind (λ of. imported.Func of) b u32_exact (λ front x s. (eqb-true b 0x00 w.0, s)) bytes k rest w.1 | inr w ↦
-    elim (chosen (b == 0x01) _ _ (Some (k, rest)) w.1) [ inl v ↦ kind_takes SpellsImportKind (λ l. imported.Table l) b table_exact (λ front x s. (eqb-true b 0x01 v.0, s)) bytes k rest v.1 | inr v ↦
-    elim (chosen (b == 0x02) _ _ (Some (k, rest)) v.1) [ inl u ↦ kind_takes SpellsImportKind (λ l. imported.Memory l) b memory_exact (λ front x s. (eqb-true b 0x02 u.0, s)) bytes k rest u.1 | inr u ↦
-    let t = chose_some (b == 0x03) (mapped (λ g. imported.Global g.0 g.1) globaltype_at bytes) (k, rest) u.1 in
-    kind_takes SpellsImportKind (λ g. imported.Global g.0 g.1) b globaltype_exact (λ front x s. (eqb-true b 0x03 t.0, s)) bytes k rest t.1 ] ] ]
+    elim (chosen (b == 0x00) _ _ (Some (k, rest)) h) [
+      | inl w ↦ kind_takes SpellsImportKind (λ of. imported.Func of) b u32_exact (λ front x s. (eqb-true b 0x00 w.0, s)) bytes k rest w.1
+      | inr w ↦
+          elim (chosen (b == 0x01) _ _ (Some (k, rest)) w.1) [
+            | inl v ↦ kind_takes SpellsImportKind (λ l. imported.Table l) b table_exact (λ front x s. (eqb-true b 0x01 v.0, s)) bytes k rest v.1
+            | inr v ↦
+                elim (chosen (b == 0x02) _ _ (Some (k, rest)) v.1) [
+                  | inl u ↦ kind_takes SpellsImportKind (λ l. imported.Memory l) b memory_exact (λ front x s. (eqb-true b 0x02 u.0, s)) bytes k rest u.1
+                  | inr u ↦
+                      let t = chose_some (b == 0x03) (mapped (λ g. imported.Global g.0 g.1) globaltype_at bytes) (k, rest) u.1 in
+                      kind_takes SpellsImportKind (λ g. imported.Global g.0 g.1) b globaltype_exact (λ front x s. (eqb-true b 0x03 t.0, s)) bytes k rest t.1
+                ]
+          ]
+    ]
 
 import_kind_again : (front rest : List ℕ) (k : ImportKind) → SpellsImportKind front k → import_kind_at (front ++ rest) ≡ Some (k, rest)
 import_kind_again [] rest (imported.Func of) h = absurd h
@@ -68,11 +77,20 @@ global_exact = mapped_exact SpellsGlobal (λ g. record { of = g.0.0; mutable = g
 export_kind_takes : (bytes : List ℕ) (k : ExportKind) (rest : List ℕ) → export_kind_at bytes ≡ Some (k, rest) → BeginsWith SpellsExportKind bytes k rest
 export_kind_takes [] k rest h = cc
 export_kind_takes (b ∷ bytes) k rest h =
-    elim (chosen (b == 0x00) _ _ (Some (k, rest)) h) [ inl w ↦ kind_takes SpellsExportKind (λ i. exported.Func i) b u32_exact (λ front x s. (eqb-true b 0x00 w.0, s)) bytes k rest w.1 | inr w ↦
-    elim (chosen (b == 0x01) _ _ (Some (k, rest)) w.1) [ inl v ↦ kind_takes SpellsExportKind (λ i. exported.Table i) b u32_exact (λ front x s. (eqb-true b 0x01 v.0, s)) bytes k rest v.1 | inr v ↦
-    elim (chosen (b == 0x02) _ _ (Some (k, rest)) v.1) [ inl u ↦ kind_takes SpellsExportKind (λ i. exported.Memory i) b u32_exact (λ front x s. (eqb-true b 0x02 u.0, s)) bytes k rest u.1 | inr u ↦
-    let t = chose_some (b == 0x03) (mapped (λ i. exported.Global i) u32_at bytes) (k, rest) u.1 in
-    kind_takes SpellsExportKind (λ i. exported.Global i) b u32_exact (λ front x s. (eqb-true b 0x03 t.0, s)) bytes k rest t.1 ] ] ]
+    elim (chosen (b == 0x00) _ _ (Some (k, rest)) h) [
+      | inl w ↦ kind_takes SpellsExportKind (λ i. exported.Func i) b u32_exact (λ front x s. (eqb-true b 0x00 w.0, s)) bytes k rest w.1
+      | inr w ↦
+          elim (chosen (b == 0x01) _ _ (Some (k, rest)) w.1) [
+            | inl v ↦ kind_takes SpellsExportKind (λ i. exported.Table i) b u32_exact (λ front x s. (eqb-true b 0x01 v.0, s)) bytes k rest v.1
+            | inr v ↦
+                elim (chosen (b == 0x02) _ _ (Some (k, rest)) v.1) [
+                  | inl u ↦ kind_takes SpellsExportKind (λ i. exported.Memory i) b u32_exact (λ front x s. (eqb-true b 0x02 u.0, s)) bytes k rest u.1
+                  | inr u ↦
+                      let t = chose_some (b == 0x03) (mapped (λ i. exported.Global i) u32_at bytes) (k, rest) u.1 in
+                      kind_takes SpellsExportKind (λ i. exported.Global i) b u32_exact (λ front x s. (eqb-true b 0x03 t.0, s)) bytes k rest t.1
+                ]
+          ]
+    ]
 
 export_kind_again : (front rest : List ℕ) (k : ExportKind) → SpellsExportKind front k → export_kind_at (front ++ rest) ≡ Some (k, rest)
 export_kind_again [] rest (exported.Func i) h = absurd h
@@ -111,9 +129,6 @@ record Groups (n count : ℕ) (groups : List LocalGroup) (bytes : List ℕ) (out
   few : count + total read < 2 ^ 32
   joins : out ≡ gathered groups read
 
-
-
-
 groups_take : (n count : ℕ) (groups : List LocalGroup) (bytes : List ℕ) (out : List LocalGroup) (rest : List ℕ) → count < 2 ^ 32 → groups_at n count groups bytes ≡ Some (out, rest) → Groups n count groups bytes out rest
 groups_take zero count groups bytes out rest l h =
     subst (λ (z : List LocalGroup × List ℕ). Groups 0 count groups bytes z.0 z.1) (some_is _ _ h)
@@ -128,7 +143,7 @@ groups_take (suc n) count groups bytes out rest l h =
       many = ap suc g.many;
       begins = begins_joined SpellsGroup (SpellsEach SpellsGroup) bytes u.1 rest u.0 g.read (group_exact.takes bytes u.0 u.1 u.2) g.begins;
       few = few;
-      joins = g.joins
+      joins = g.joins;
     }
 
 groups_again : (gs : List LocalGroup) (count : ℕ) (groups : List LocalGroup) (front rest : List ℕ) → SpellsEach SpellsGroup front gs → count + total gs < 2 ^ 32 →
@@ -145,16 +160,16 @@ groups_again (g ∷ gs) count groups front rest h l =
 pub locals_exact : IsExact SpellsLocals locals_at
 locals_exact = record {
   takes = λ bytes out rest h.
-    let u = read_first (u32_at bytes) (λ n rest. groups_at n 0 [] rest) (out, rest) h in
-    let g = groups_take u.0 0 [] u.1 out rest (omega arith) u.3 in
-    let n = subst (λ m. BeginsWith SpellsU32 bytes m u.1) (sym g.many) (u32_exact.takes bytes u.0 u.1 u.2) in
-    let j = begins_joined SpellsU32 (SpellsEach SpellsGroup) bytes u.1 rest (length g.read) g.read n g.begins in
-    let few : total g.read < 2 ^ 32 = omega (arith, g.few) in
-    (j.0, (g.read, j.1, few, g.joins), j.2);
+      let u = read_first (u32_at bytes) (λ n rest. groups_at n 0 [] rest) (out, rest) h in
+      let g = groups_take u.0 0 [] u.1 out rest (omega arith) u.3 in
+      let n = subst (λ m. BeginsWith SpellsU32 bytes m u.1) (sym g.many) (u32_exact.takes bytes u.0 u.1 u.2) in
+      let j = begins_joined SpellsU32 (SpellsEach SpellsGroup) bytes u.1 rest (length g.read) g.read n g.begins in
+      let few : total g.read < 2 ^ 32 = omega (arith, g.few) in
+      (j.0, (g.read, j.1, few, g.joins), j.2);
   again = λ front rest out h.
-    joined_again (λ a. SpellsU32 a (length h.0)) (λ b. SpellsEach SpellsGroup b h.0) front rest u32_at (λ n rest. groups_at n 0 [] rest) (length h.0) (out, rest) h.1
-    (λ f more q. u32_exact.again f more (length h.0) q)
-    (λ b q. let few : 0 + total h.0 < 2 ^ 32 = omega (arith, h.2) in groups_again h.0 0 [] b rest q few ∙ ap (λ z. Some (z, rest)) (sym h.3))
+      joined_again (λ a. SpellsU32 a (length h.0)) (λ b. SpellsEach SpellsGroup b h.0) front rest u32_at (λ n rest. groups_at n 0 [] rest) (length h.0) (out, rest) h.1
+      (λ f more q. u32_exact.again f more (length h.0) q)
+      (λ b q. let few : 0 + total h.0 < 2 ^ 32 = omega (arith, h.2) in groups_again h.0 0 [] b rest q few ∙ ap (λ z. Some (z, rest)) (sym h.3));
 }
 
 pub code_exact : IsExact SpellsCode code_at

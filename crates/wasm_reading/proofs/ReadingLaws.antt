@@ -35,9 +35,11 @@ some_is x y e = cc
 pub begins_joined : {A B : Type 0} (P : List ℕ → A → Type 0) (Q : List ℕ → B → Type 0) (bytes mid rest : List ℕ) (a : A) (b : B) →
     BeginsWith P bytes a mid → BeginsWith Q mid b rest →
     (front : List ℕ) × Joined (λ f. P f a) (λ g. Q g b) front × (bytes ≡ front ++ rest)
-begins_joined P Q bytes mid rest a b p q =
-    (p.0 ++ q.0, record { front = p.0; back = q.0; parts = refl; first = p.1; second = q.1 },
-      p.2 ∙ ap (λ m. p.0 ++ m) q.2 ∙ sym (append_assoc p.0 q.0 rest))
+begins_joined P Q bytes mid rest a b p q = (
+  p.0 ++ q.0,
+  record { front = p.0; back = q.0; parts = refl; first = p.1; second = q.1 },
+  p.2 ∙ ap (λ m. p.0 ++ m) q.2 ∙ sym (append_assoc p.0 q.0 rest),
+)
 
 -- reading two parts of bytes that are joined of them
 pub joined_again : {X Y : Type 0} (P Q : List ℕ → Type 0) (bytes rest : List ℕ) (r : List ℕ → Option (X × List ℕ)) (k : X → List ℕ → Option Y) (x : X) (y : Y) →
@@ -55,14 +57,14 @@ pub mapped_exact : {X Y : Type 0} {S : List ℕ → X → Type 0} {r : List ℕ 
     ((bytes : List ℕ) (y : Y) → T bytes y → (x : X) × S bytes x × (f x ≡ y)) → IsExact T (mapped f r)
 mapped_exact {X} {Y} {S} {r} T f e to from = record {
   takes = λ bytes y rest h.
-    let p = read_first (r bytes) (λ x rest. Some (f x, rest)) (y, rest) h in
-    let t = e.takes bytes p.0 p.1 p.2 in
-    let same : f p.0 ≡ y = ap (λ z. z.0) (some_is _ _ p.3) in
-    let ends : p.1 ≡ rest = ap (λ z. z.1) (some_is _ _ p.3) in
-    (t.0, subst (λ z. T t.0 z) same (to t.0 p.0 t.1), t.2 ∙ ap (λ m. t.0 ++ m) ends);
+      let p = read_first (r bytes) (λ x rest. Some (f x, rest)) (y, rest) h in
+      let t = e.takes bytes p.0 p.1 p.2 in
+      let same : f p.0 ≡ y = ap (λ z. z.0) (some_is _ _ p.3) in
+      let ends : p.1 ≡ rest = ap (λ z. z.1) (some_is _ _ p.3) in
+      (t.0, subst (λ z. T t.0 z) same (to t.0 p.0 t.1), t.2 ∙ ap (λ m. t.0 ++ m) ends);
   again = λ front rest y h.
-    let p = from front y h in
-    ap (λ o. and_then o (λ x rest. Some (f x, rest))) (e.again front rest p.0 p.1) ∙ ap (λ z. Some (z, rest)) p.2
+      let p = from front y h in
+      ap (λ o. and_then o (λ x rest. Some (f x, rest))) (e.again front rest p.0 p.1) ∙ ap (λ z. Some (z, rest)) p.2;
 }
 
 -- two things, one after the other
@@ -70,16 +72,16 @@ pub pair_exact : {X Y : Type 0} {A : List ℕ → X → Type 0} {B : List ℕ �
     IsExact A r → IsExact B s → IsExact (λ bytes p. Joined (λ a. A a p.0) (λ b. B b p.1) bytes) (pair_at r s)
 pair_exact {X} {Y} {A} {B} {r} {s} e f = record {
   takes = λ bytes p rest h.
-    let u = read_first (r bytes) (λ x mid. and_then (s mid) (λ y rest. Some ((x, y), rest))) (p, rest) h in
-    let v = read_first (s u.1) (λ y rest. Some ((u.0, y), rest)) (p, rest) u.3 in
-    let is : (u.0, v.0) ≡ p = ap (λ z. z.0) (some_is _ _ v.3) in
-    let ends : v.1 ≡ rest = ap (λ z. z.1) (some_is _ _ v.3) in
-    let b = begins_joined A B bytes u.1 v.1 u.0 v.0 (e.takes bytes u.0 u.1 u.2) (f.takes u.1 v.0 v.1 v.2) in
-    (b.0, subst (λ (z : X × Y). Joined (λ a. A a z.0) (λ c. B c z.1) b.0) is b.1, b.2 ∙ ap (λ m. b.0 ++ m) ends);
+      let u = read_first (r bytes) (λ x mid. and_then (s mid) (λ y rest. Some ((x, y), rest))) (p, rest) h in
+      let v = read_first (s u.1) (λ y rest. Some ((u.0, y), rest)) (p, rest) u.3 in
+      let is : (u.0, v.0) ≡ p = ap (λ z. z.0) (some_is _ _ v.3) in
+      let ends : v.1 ≡ rest = ap (λ z. z.1) (some_is _ _ v.3) in
+      let b = begins_joined A B bytes u.1 v.1 u.0 v.0 (e.takes bytes u.0 u.1 u.2) (f.takes u.1 v.0 v.1 v.2) in
+      (b.0, subst (λ (z : X × Y). Joined (λ a. A a z.0) (λ c. B c z.1) b.0) is b.1, b.2 ∙ ap (λ m. b.0 ++ m) ends);
   again = λ front rest p h.
-    joined_again (λ a. A a p.0) (λ b. B b p.1) front rest r (λ x mid. and_then (s mid) (λ y rest. Some ((x, y), rest))) p.0 (p, rest) h
-    (λ g more q. e.again g more p.0 q)
-    (λ g q. ap (λ o. and_then o (λ y rest. Some ((p.0, y), rest))) (f.again g rest p.1 q))
+      joined_again (λ a. A a p.0) (λ b. B b p.1) front rest r (λ x mid. and_then (s mid) (λ y rest. Some ((x, y), rest))) p.0 (p, rest) h
+      (λ g more q. e.again g more p.0 q)
+      (λ g q. ap (λ o. and_then o (λ y rest. Some ((p.0, y), rest))) (f.again g rest p.1 q));
 }
 
 -- a byte in front
@@ -88,9 +90,10 @@ behind_exact {X} {S} {r} b e = record { takes = takes; again = again } where
   takes : (bytes : List ℕ) (x : X) (rest : List ℕ) → behind_at b r bytes ≡ Some (x, rest) → BeginsWith (λ bytes x. Behind b (λ a. S a x) bytes) bytes x rest
   takes [] x rest h = cc
   takes (c ∷ bytes) x rest h =
-    let p = chose_some (c == b) (r bytes) (x, rest) h in
-    let t = e.takes bytes x rest p.1 in
-    (c ∷ t.0, (eqb-true c b p.0, t.1), ap (λ m. c ∷ m) t.2)
+      let p = chose_some (c == b) (r bytes) (x, rest) h in
+      let t = e.takes bytes x rest p.1 in
+      (c ∷ t.0, (eqb-true c b p.0, t.1), ap (λ m. c ∷ m) t.2)
+
   again : (front rest : List ℕ) (x : X) → Behind b (λ a. S a x) front → behind_at b r (front ++ rest) ≡ Some (x, rest)
   again [] rest x h = absurd h
   again (c ∷ front) rest x h = ap (λ t. cond t (r (front ++ rest)) None) (eq-eqb c b h.0) ∙ e.again front rest x h.1
@@ -103,21 +106,21 @@ pub u32_exact : IsExact SpellsU32 u32_at
 unfolding u32_at unsigned_at
 u32_exact = record {
   takes = λ bytes x rest h. number_takes unsigned_last unsigned_joined 32 bytes x rest (ok_of _ _ h);
-  again = λ front rest x h. ap result_ok (number_again unsigned_last unsigned_joined 32 front x rest h)
+  again = λ front rest x h. ap result_ok (number_again unsigned_last unsigned_joined 32 front x rest h);
 }
 
 pub i32_exact : IsExact (SpellsSigned 32) i32_at
 unfolding i32_at signed_at
 i32_exact = record {
   takes = λ bytes x rest h. number_takes signed_last signed_joined 32 bytes x rest (ok_of _ _ h);
-  again = λ front rest x h. ap result_ok (number_again signed_last signed_joined 32 front x rest h)
+  again = λ front rest x h. ap result_ok (number_again signed_last signed_joined 32 front x rest h);
 }
 
 pub i64_exact : IsExact (SpellsSigned 64) i64_at
 unfolding i64_at signed_at
 i64_exact = record {
   takes = λ bytes x rest h. number_takes signed_last signed_joined 64 bytes x rest (ok_of _ _ h);
-  again = λ front rest x h. ap result_ok (number_again signed_last signed_joined 64 front x rest h)
+  again = λ front rest x h. ap result_ok (number_again signed_last signed_joined 64 front x rest h);
 }
 
 -- so many items
@@ -143,22 +146,22 @@ module _ {X : Type 0} {S : List ℕ → X → Type 0} {r : List ℕ → Option (
   pub vec_exact : IsExact (SpellsVec S) (vec_at r)
   vec_exact = record {
     takes = λ bytes xs rest h.
-      let u = read_first (u32_at bytes) (λ n rest. each_at r n rest) (xs, rest) h in
-      let b = each_takes u.0 u.1 xs rest u.3 in
-      let n = subst (λ m. BeginsWith SpellsU32 bytes m u.1) (sym b.1) (u32_exact.takes bytes u.0 u.1 u.2) in
-      begins_joined SpellsU32 (SpellsEach S) bytes u.1 rest (length xs) xs n b.0;
+        let u = read_first (u32_at bytes) (λ n rest. each_at r n rest) (xs, rest) h in
+        let b = each_takes u.0 u.1 xs rest u.3 in
+        let n = subst (λ m. BeginsWith SpellsU32 bytes m u.1) (sym b.1) (u32_exact.takes bytes u.0 u.1 u.2) in
+        begins_joined SpellsU32 (SpellsEach S) bytes u.1 rest (length xs) xs n b.0;
     again = λ front rest xs h.
-      joined_again (λ a. SpellsU32 a (length xs)) (λ b. SpellsEach S b xs) front rest u32_at (λ n rest. each_at r n rest) (length xs) (xs, rest) h
-      (λ g more q. u32_exact.again g more (length xs) q) (λ g q. each_again g rest xs q)
+        joined_again (λ a. SpellsU32 a (length xs)) (λ b. SpellsEach S b xs) front rest u32_at (λ n rest. each_at r n rest) (length xs) (xs, rest) h
+        (λ g more q. u32_exact.again g more (length xs) q) (λ g q. each_again g rest xs q);
   }
 
 span_takes : (n : ℕ) (bytes xs rest : List ℕ) → span_at n bytes ≡ Some (xs, rest) → (length xs ≡ n) × (bytes ≡ xs ++ rest)
 span_takes n bytes xs rest h =
     elim (chosen (nat_lt (length bytes) n) None (Some (take n bytes, drop n bytes)) (Some (xs, rest)) h) [
-      inl w ↦ let no : None ≡ Some (xs, rest) = w.1 in cc
-    | inr w ↦
-        subst (λ (z : List ℕ × List ℕ). (length z.0 ≡ n) × (bytes ≡ z.0 ++ z.1)) (some_is _ _ w.1)
-        (length-take-le n bytes (ltb-false (length bytes) n w.0), sym (take-append-drop n bytes))
+      | inl w ↦ let no : None ≡ Some (xs, rest) = w.1 in cc
+      | inr w ↦
+          subst (λ (z : List ℕ × List ℕ). (length z.0 ≡ n) × (bytes ≡ z.0 ++ z.1)) (some_is _ _ w.1)
+          (length-take-le n bytes (ltb-false (length bytes) n w.0), sym (take-append-drop n bytes))
     ]
 
 span_again : (xs rest : List ℕ) → span_at (length xs) (xs ++ rest) ≡ Some (xs, rest)
@@ -169,32 +172,32 @@ span_again xs rest =
 pub floats_exact : (n : ℕ) → IsExact (λ bytes xs. (length bytes ≡ n) × (bytes ≡ xs)) (span_at n)
 floats_exact n = record {
   takes = λ bytes xs rest h. let p = span_takes n bytes xs rest h in (xs, (p.0, refl), p.1);
-  again = λ front rest xs h. subst (λ m. span_at m (front ++ rest) ≡ Some (xs, rest)) h.0 (span_again front rest ∙ ap (λ z. Some (z, rest)) h.1)
+  again = λ front rest xs h. subst (λ m. span_at m (front ++ rest) ≡ Some (xs, rest)) h.0 (span_again front rest ∙ ap (λ z. Some (z, rest)) h.1);
 }
 
 pub bytes_exact : IsExact SpellsBytes bytes_at
 bytes_exact = record {
   takes = λ bytes xs rest h.
-    let u = read_first (u32_at bytes) (λ n rest. span_at n rest) (xs, rest) h in
-    let b = span_takes u.0 u.1 xs rest u.3 in
-    let n = subst (λ m. BeginsWith SpellsU32 bytes m u.1) (sym b.0) (u32_exact.takes bytes u.0 u.1 u.2) in
-    begins_joined SpellsU32 (λ b content. b ≡ content) bytes u.1 rest (length xs) xs n (xs, refl, b.1);
+      let u = read_first (u32_at bytes) (λ n rest. span_at n rest) (xs, rest) h in
+      let b = span_takes u.0 u.1 xs rest u.3 in
+      let n = subst (λ m. BeginsWith SpellsU32 bytes m u.1) (sym b.0) (u32_exact.takes bytes u.0 u.1 u.2) in
+      begins_joined SpellsU32 (λ b content. b ≡ content) bytes u.1 rest (length xs) xs n (xs, refl, b.1);
   again = λ front rest xs h.
-    joined_again (λ a. SpellsU32 a (length xs)) (λ b. b ≡ xs) front rest u32_at (λ n rest. span_at n rest) (length xs) (xs, rest) h
-    (λ g more q. u32_exact.again g more (length xs) q)
-    (λ g q. subst (λ b. span_at (length xs) (b ++ rest) ≡ Some (xs, rest)) (sym q) (span_again xs rest))
+      joined_again (λ a. SpellsU32 a (length xs)) (λ b. b ≡ xs) front rest u32_at (λ n rest. span_at n rest) (length xs) (xs, rest) h
+      (λ g more q. u32_exact.again g more (length xs) q)
+      (λ g q. subst (λ b. span_at (length xs) (b ++ rest) ≡ Some (xs, rest)) (sym q) (span_again xs rest));
 }
 
 pub name_exact : IsExact SpellsName name_at
 name_exact = record {
   takes = λ bytes name rest h.
-    let u = read_first (bytes_at bytes) (λ name rest. cond (is_utf8 name) (Some (name, rest)) None) (name, rest) h in
-    let p = chose_some (is_utf8 u.0) (Some (u.0, u.1)) (name, rest) u.3 in
-    let t = bytes_exact.takes bytes u.0 u.1 u.2 in
-    subst (λ (z : List ℕ × List ℕ). BeginsWith SpellsName bytes z.0 z.1) (some_is _ _ p.1) (t.0, (t.1, IsUtf8-from_is_utf8 u.0 p.0), t.2);
+      let u = read_first (bytes_at bytes) (λ name rest. cond (is_utf8 name) (Some (name, rest)) None) (name, rest) h in
+      let p = chose_some (is_utf8 u.0) (Some (u.0, u.1)) (name, rest) u.3 in
+      let t = bytes_exact.takes bytes u.0 u.1 u.2 in
+      subst (λ (z : List ℕ × List ℕ). BeginsWith SpellsName bytes z.0 z.1) (some_is _ _ p.1) (t.0, (t.1, IsUtf8-from_is_utf8 u.0 p.0), t.2);
   again = λ front rest name h.
-    ap (λ o. and_then o (λ name rest. cond (is_utf8 name) (Some (name, rest)) None)) (bytes_exact.again front rest name h.0)
-    ∙ ap (λ b. cond b (Some (name, rest)) None) (is_utf8-from_IsUtf8 name h.1)
+      ap (λ o. and_then o (λ name rest. cond (is_utf8 name) (Some (name, rest)) None)) (bytes_exact.again front rest name h.0)
+      ∙ ap (λ b. cond b (Some (name, rest)) None) (is_utf8-from_IsUtf8 name h.1);
 }
 
 ended_takes : {X : Type 0} (left : List ℕ) (x y : X) → if_ended left (Some x) ≡ Some y → (left ≡ []) × (x ≡ y)
@@ -221,13 +224,13 @@ all_again {X} {S} {r} e bytes x h = ap (λ b. all_of (r b)) (sym (append-nil byt
 pub sized_exact : {X : Type 0} {S : List ℕ → X → Type 0} {r : List ℕ → Option (X × List ℕ)} → IsExact S r → IsExact (λ bytes x. Sized (λ c. S c x) bytes) (sized_at r)
 sized_exact {X} {S} {r} e = record {
   takes = λ bytes x rest h.
-    let u = read_first (bytes_at bytes) (λ content rest. with_rest rest (all_of (r content))) (x, rest) h in
-    let w = with_takes u.1 (all_of (r u.0)) x rest u.3 in
-    let t = bytes_exact.takes bytes u.0 u.1 u.2 in
-    (t.0, (u.0, t.1, all_spelled e u.0 x w.0), t.2 ∙ ap (λ m. t.0 ++ m) w.1);
+      let u = read_first (bytes_at bytes) (λ content rest. with_rest rest (all_of (r content))) (x, rest) h in
+      let w = with_takes u.1 (all_of (r u.0)) x rest u.3 in
+      let t = bytes_exact.takes bytes u.0 u.1 u.2 in
+      (t.0, (u.0, t.1, all_spelled e u.0 x w.0), t.2 ∙ ap (λ m. t.0 ++ m) w.1);
   again = λ front rest x h.
-    ap (λ o. and_then o (λ content rest. with_rest rest (all_of (r content)))) (bytes_exact.again front rest h.0 h.1)
-    ∙ ap (λ o. with_rest rest o) (all_again e h.0 x h.2)
+      ap (λ o. and_then o (λ content rest. with_rest rest (all_of (r content)))) (bytes_exact.again front rest h.0 h.1)
+      ∙ ap (λ o. with_rest rest o) (all_again e h.0 x h.2);
 }
 
 -- a byte that stands for a value
@@ -237,8 +240,9 @@ byte_exact {X} of code to from = record { takes = takes; again = again } where
   takes : (bytes : List ℕ) (x : X) (rest : List ℕ) → byte_as of bytes ≡ Some (x, rest) → BeginsWith (λ bytes x. bytes ≡ code x ∷ []) bytes x rest
   takes [] x rest h = cc
   takes (b ∷ bytes) x rest h =
-    let p = with_takes bytes (of b) x rest h in
-    (b ∷ [], ap (λ c. c ∷ []) (to b x p.0), ap (λ m. b ∷ m) p.1)
+      let p = with_takes bytes (of b) x rest h in
+      (b ∷ [], ap (λ c. c ∷ []) (to b x p.0), ap (λ m. b ∷ m) p.1)
+
   again : (front rest : List ℕ) (x : X) → front ≡ code x ∷ [] → byte_as of (front ++ rest) ≡ Some (x, rest)
   again front rest x h = ap (λ b. byte_as of (b ++ rest)) h ∙ ap (λ o. with_rest rest o) (from x)
 
@@ -247,7 +251,7 @@ pub exact_as : {X : Type 0} {S : List ℕ → X → Type 0} {r : List ℕ → Op
     ((bytes : List ℕ) (x : X) → S bytes x → T bytes x) → ((bytes : List ℕ) (x : X) → T bytes x → S bytes x) → IsExact S r → IsExact T r
 exact_as {X} {S} {r} T to from e = record {
   takes = λ bytes x rest h. let t = e.takes bytes x rest h in (t.0, to t.0 x t.1, t.2);
-  again = λ front rest x h. e.again front rest x (from front x h)
+  again = λ front rest x h. e.again front rest x (from front x h);
 }
 
 -- what bytes begin with is one thing, and one front spells it

@@ -30,8 +30,9 @@ pub record Split (start : List ℕ) (parts : List Section) (least : ℕ) (now : 
 
 pub split_first : (start : List ℕ) (parts : List Section) → parts ≡ [] → Split start parts 1 start
 split_first start parts e = record {
-  left = length start; fits = omega arith;
-  goes = sym (front_none (sections_at (length start) 1 start)) ∙ ap (λ p. with_parts p (sections_at (length start) 1 start)) (sym e)
+  left = length start;
+  fits = omega arith;
+  goes = sym (front_none (sections_at (length start) 1 start)) ∙ ap (λ p. with_parts p (sections_at (length start) 1 start)) (sym e);
 }
 
 sections_step : (n least b : ℕ) (mid content rest : List ℕ) → bytes_at mid ≡ Some (content, rest) →
@@ -65,7 +66,7 @@ module _ (start : List ℕ) (parts : List Section) (least : ℕ) (now mid rest c
   left_at (suc n) e = record {
     n = n;
     fits = let k = ap length (next_is now mid b first) in let f = s.fits in let l = rest_shorter mid content rest bytes in omega arith;
-    is = ap (λ l. sections_at l least now) e ∙ ap (λ x. sections_at (suc n) least x) (next_is now mid b first) ∙ sections_step n least b mid content rest bytes
+    is = ap (λ l. sections_at l least now) e ∙ ap (λ x. sections_at (suc n) least x) (next_is now mid b first) ∙ sections_step n least b mid content rest bytes;
   }
 
   placed_at : (t : Bool) → (b == 0) ≡ t → (same later : Option (List Section)) →
@@ -76,20 +77,22 @@ module _ (start : List ℕ) (parts : List Section) (least : ℕ) (now mid rest c
   split_custom more z named m =
       let l = left_at s.left refl in
       record {
-        left = l.n; fits = l.fits;
+        left = l.n;
+        fits = l.fits;
         goes = s.goes ∙ ap (λ o. with_parts parts o) (l.is ∙ placed_at true (eq-eqb b 0 z) (sections_at l.n least rest) (sections_at l.n (b + 1) rest) ∙ ap (λ t. cond t (with_section b content (sections_at l.n least rest)) None) named)
-          ∙ parts_more parts (record { id = b; content = content }) (sections_at l.n least rest) ∙ ap (λ p. with_parts p (sections_at l.n least rest)) (sym m)
+            ∙ parts_more parts (record { id = b; content = content }) (sections_at l.n least rest) ∙ ap (λ p. with_parts p (sections_at l.n least rest)) (sym m);
       }
 
   pub split_known : (more : List Section) → (b ≡ 0 → ⊥) → least ≤ b → b ≤ 11 → more ≡ parts ++ record { id = b; content = content } ∷ [] → Split start more (b + 1) rest
   split_known more nz low high m =
       let l = left_at s.left refl in
       record {
-        left = l.n; fits = l.fits;
+        left = l.n;
+        fits = l.fits;
         goes = s.goes ∙ ap (λ o. with_parts parts o) (l.is ∙ placed_at false (ne_eqb b 0 nz) (sections_at l.n least rest) (sections_at l.n (b + 1) rest)
             ∙ ap (λ t. cond t None (cond (nat_lt 11 b) None (with_section b content (sections_at l.n (b + 1) rest)))) (le-ltb b least low)
             ∙ ap (λ t. cond t None (with_section b content (sections_at l.n (b + 1) rest))) (le-ltb 11 b high))
-          ∙ parts_more parts (record { id = b; content = content }) (sections_at l.n (b + 1) rest) ∙ ap (λ p. with_parts p (sections_at l.n (b + 1) rest)) (sym m)
+            ∙ parts_more parts (record { id = b; content = content }) (sections_at l.n (b + 1) rest) ∙ ap (λ p. with_parts p (sections_at l.n (b + 1) rest)) (sym m);
       }
 
   pub split_unnamed : b ≡ 0 → name_at content ≡ None → sections_at (length start) 1 start ≡ None
@@ -101,14 +104,14 @@ module _ (start : List ℕ) (parts : List Section) (least : ℕ) (now mid rest c
   split_early nz low =
       let l = left_at s.left refl in
       s.goes ∙ parts_none parts _ (l.is ∙ placed_at false (ne_eqb b 0 nz) (sections_at l.n least rest) (sections_at l.n (b + 1) rest)
-        ∙ ap (λ t. cond t None (cond (nat_lt 11 b) None (with_section b content (sections_at l.n (b + 1) rest)))) (lt-ltb b least low))
+      ∙ ap (λ t. cond t None (cond (nat_lt 11 b) None (with_section b content (sections_at l.n (b + 1) rest)))) (lt-ltb b least low))
 
   pub split_past : (b ≡ 0 → ⊥) → least ≤ b → 11 < b → sections_at (length start) 1 start ≡ None
   split_past nz low high =
       let l = left_at s.left refl in
       s.goes ∙ parts_none parts _ (l.is ∙ placed_at false (ne_eqb b 0 nz) (sections_at l.n least rest) (sections_at l.n (b + 1) rest)
-        ∙ ap (λ t. cond t None (cond (nat_lt 11 b) None (with_section b content (sections_at l.n (b + 1) rest)))) (le-ltb b least low)
-        ∙ ap (λ t. cond t None (with_section b content (sections_at l.n (b + 1) rest))) (lt-ltb 11 b high))
+      ∙ ap (λ t. cond t None (cond (nat_lt 11 b) None (with_section b content (sections_at l.n (b + 1) rest)))) (le-ltb b least low)
+      ∙ ap (λ t. cond t None (with_section b content (sections_at l.n (b + 1) rest))) (lt-ltb 11 b high))
 
 none_step : (n least b : ℕ) (mid : List ℕ) → bytes_at mid ≡ None → sections_at n least (b ∷ mid) ≡ None
 none_step zero least b mid h = refl

@@ -30,9 +30,11 @@ opened_kept : (lists others : List (List Instr)) (list : ℕ) (fs : List Frame) 
 opened_kept lists others list [] [] o kept h = tt
 opened_kept lists others list [] (x ∷ os) o kept h = absurd h
 opened_kept lists others list (f ∷ fs) [] o kept h = absurd h
-opened_kept lists others list (f ∷ fs) (x ∷ os) o kept h =
-    (kind_kept lists others f.outer list f.kind x o.1 kept h.0, kept f.outer (under x) o.0 h.1,
-      opened_kept lists others f.outer fs os o.2 (λ n s l m. kept n s (omega arith) m) h.2)
+opened_kept lists others list (f ∷ fs) (x ∷ os) o kept h = (
+  kind_kept lists others f.outer list f.kind x o.1 kept h.0,
+  kept f.outer (under x) o.0 h.1,
+  opened_kept lists others f.outer fs os o.2 (λ n s l m. kept n s (omega arith) m) h.2,
+)
 
 -- no number from a list's on is unnamed but its own
 zero_add : (n : ℕ) → 0 + n ≡ n
@@ -90,8 +92,8 @@ module _ (lists : List (List Instr)) (k : ℕ) (i : Instr) (inside : k < length 
         let same : n ≡ k = eqb-true n k e in
         subst (λ j. ListNames (λ m. (j < m) × (m < length added)) (list_at added j)) (sym same)
         (subst (λ is. ListNames (λ m. (k < m) × (m < length added)) is) (sym added_here)
-          (names_weaker (λ m. (k < m) × (m < length lists)) (λ m. (k < m) × (m < length added)) (list_at lists k ++ i ∷ []) (λ m p. (p.0, subst (λ l. m < l) (sym added_length) p.1))
-            (names_more (λ m. (k < m) × (m < length lists)) (list_at lists k) i (later k) h)))
+        (names_weaker (λ m. (k < m) × (m < length lists)) (λ m. (k < m) × (m < length added)) (list_at lists k ++ i ∷ []) (λ m p. (p.0, subst (λ l. m < l) (sym added_length) p.1))
+        (names_more (λ m. (k < m) × (m < length lists)) (list_at lists k) i (later k) h)))
     later_at false e =
         let other : n ≢ k = λ s. false_is_not (n == k) e (eq-eqb n k s) in
         subst (λ is. ListNames (λ m. (n < m) × (m < length added)) is) (sym (added_other n other))
@@ -145,13 +147,13 @@ stands_plain lists fs list os before i st p =
     record {
       later = added_later lists list i st.inside free st.later (plain_named (λ m. (list < m) × (m < length lists)) i p);
       once = λ n h.
-        ap (λ x. x + occurs n (unnamed list fs)) (times-more lists list i n st.inside ∙ ap (λ ns. times_named lists n + occurs n ns) (plain_names i p))
-        ∙ ap (λ x. x + occurs n (unnamed list fs)) (add_zero (times_named lists n))
-        ∙ st.once n (subst (λ l. n < l) len h);
+          ap (λ x. x + occurs n (unnamed list fs)) (times-more lists list i n st.inside ∙ ap (λ ns. times_named lists n + occurs n ns) (plain_names i p))
+          ∙ ap (λ x. x + occurs n (unnamed list fs)) (add_zero (times_named lists n))
+          ∙ st.once n (subst (λ l. n < l) len h);
       order = st.order;
       inside = subst (λ l. list < l) (sym len) st.inside;
       now = added_now lists list i st.inside free before (Plain i Empty) st.now (plain p none);
-      opened = opened_kept lists (set lists list (list_at lists list ++ i ∷ [])) list fs os st.order (λ n s l m. added_kept lists list i st.inside free n s (λ e. omega arith) m) st.opened
+      opened = opened_kept lists (set lists list (list_at lists list ++ i ∷ [])) list fs os st.order (λ n s l m. added_kept lists list i st.inside free n s (λ e. omega arith) m) st.opened;
     }
 
 -- A new empty list.
@@ -169,6 +171,7 @@ module _ (lists : List (List Instr)) where
     instr_named (instr.Loop of n) = tt
     instr_named (instr.If of n k) = (tt, tt)
     instr_named _ = tt
+
     all_named : (is : List Instr) → ListNames (λ n. Unit {0}) is
     all_named [] = tt
     all_named (i ∷ is) = (instr_named i, all_named is)
@@ -196,7 +199,7 @@ wider_once lists ns later new once n h = once_at (length lists == n) refl where
       let same : length lists ≡ n = eqb-true (length lists) n e in
       subst (λ k. times_named (lists ++ [] ∷ []) k + occurs k (length lists ∷ ns) ≡ 1) same
       (sum_one (times-empty lists (length lists) ∙ never_there lists later)
-        (occurs-cons (length lists) (length lists) ns ∙ ap (λ b. cond b 1 0 + occurs (length lists) ns) (eq-eqb (length lists) (length lists) refl) ∙ ap (λ x. 1 + x) new))
+      (occurs-cons (length lists) (length lists) ns ∙ ap (λ b. cond b 1 0 + occurs (length lists) ns) (eq-eqb (length lists) (length lists) refl) ∙ ap (λ x. 1 + x) new))
   once_at false e =
       let other : length lists ≢ n = λ s. false_is_not (length lists == n) e (eq-eqb (length lists) n s) in
       ap (λ x. x + occurs n (length lists ∷ ns)) (times-empty lists n)
@@ -210,13 +213,16 @@ pub stands_open : (lists : List (List Instr)) (fs : List Frame) (list : ℕ) (os
 stands_open lists fs list os before k o st w a km u = record {
   later = wider_later lists st.later;
   once = λ n h.
-    ap (λ ns. times_named (lists ++ [] ∷ []) n + occurs n (length lists ∷ ns)) w
-    ∙ wider_once lists (unnamed list fs) st.later (unnamed_past (length lists) list fs st.order st.inside) st.once n (omega (arith, h, wider_length lists));
+      ap (λ ns. times_named (lists ++ [] ∷ []) n + occurs n (length lists ∷ ns)) w
+      ∙ wider_once lists (unnamed list fs) st.later (unnamed_past (length lists) list fs st.order st.inside) st.once n (omega (arith, h, wider_length lists));
   order = (st.inside, a, st.order);
   inside = omega (arith, wider_length lists);
   now = wider_none lists;
-  opened = (km, subst (λ s. Means (lists ++ [] ∷ []) (list_at (lists ++ [] ∷ []) list) s) (sym u) (wider_at lists list before st.now),
-    opened_kept lists (lists ++ [] ∷ []) list fs os st.order (λ n s l m. wider_at lists n s m) st.opened)
+  opened = (
+    km,
+    subst (λ s. Means (lists ++ [] ∷ []) (list_at (lists ++ [] ∷ []) list) s) (sym u) (wider_at lists list before st.now),
+    opened_kept lists (lists ++ [] ∷ []) list fs os st.order (λ n s l m. wider_at lists n s m) st.opened,
+  );
 }
 
 -- the second arm of an if begins
@@ -229,8 +235,11 @@ stands_else lists fs list outer of t os before u st = record {
   order = (omega (arith, st.order.0, st.inside), (st.order.0, st.inside), st.order.2);
   inside = omega (arith, wider_length lists);
   now = wider_none lists;
-  opened = ((st.opened.0, wider_at lists list before st.now), wider_at lists outer u st.opened.1,
-    opened_kept lists (lists ++ [] ∷ []) outer fs os st.order.2 (λ n s l m. wider_at lists n s m) st.opened.2)
+  opened = (
+    (st.opened.0, wider_at lists list before st.now),
+    wider_at lists outer u st.opened.1,
+    opened_kept lists (lists ++ [] ∷ []) outer fs os st.order.2 (λ n s l m. wider_at lists n s m) st.opened.2,
+  );
 }
 
 -- A construct ends: the instruction i, which names the lists ns, is added to the list outer.
@@ -256,14 +265,14 @@ module _ (lists : List (List Instr)) (fs : List Frame) (outer : ℕ) (os : List 
       record {
         later = added_later lists outer i c.inside free c.later c.inner;
         once = λ n h.
-          ap (λ x. x + occurs n (unnamed outer fs)) (times-more lists outer i n c.inside ∙ ap (λ ms. times_named lists n + occurs n ms) c.named)
-          ∙ add_over (times_named lists n) (occurs n ns) (occurs n (unnamed outer fs))
-          ∙ ap (λ x. times_named lists n + x) (sym (occurs-append n ns (unnamed outer fs)))
-          ∙ c.once n (subst (λ l. n < l) len h);
+            ap (λ x. x + occurs n (unnamed outer fs)) (times-more lists outer i n c.inside ∙ ap (λ ms. times_named lists n + occurs n ms) c.named)
+            ∙ add_over (times_named lists n) (occurs n ns) (occurs n (unnamed outer fs))
+            ∙ ap (λ x. times_named lists n + x) (sym (occurs-append n ns (unnamed outer fs)))
+            ∙ c.once n (subst (λ l. n < l) len h);
         order = c.order;
         inside = subst (λ l. outer < l) (sym len) c.inside;
         now = added_now lists outer i c.inside free u t c.under (c.means (set lists outer (list_at lists outer ++ i ∷ [])) (λ n s l m. added_kept lists outer i c.inside free n s l m));
-        opened = opened_kept lists (set lists outer (list_at lists outer ++ i ∷ [])) outer fs os c.order (λ n s l m. added_kept lists outer i c.inside free n s (λ e. omega arith) m) c.opened
+        opened = opened_kept lists (set lists outer (list_at lists outer ++ i ∷ [])) outer fs os c.order (λ n s l m. added_kept lists outer i c.inside free n s (λ e. omega arith) m) c.opened;
       }
 
 -- the end of a block
@@ -272,9 +281,16 @@ pub ends_block : (lists : List (List Instr)) (fs : List Frame) (list outer : ℕ
     Stands (set lists outer (list_at lists outer ++ instr.Block of list ∷ [])) fs outer os (append u (Block t before Empty))
 ends_block lists fs list outer of t os before u st =
     stands_close lists fs outer os u (Block t before Empty) (instr.Block of list) (list ∷ []) (record {
-      later = st.later; inside = omega (arith, st.order.0, st.inside); order = st.order.2;
-      once = st.once; under = st.opened.1; opened = st.opened.2; named = refl; inner = (st.order.0, st.inside);
-      means = λ others kept. subst (λ x. Means others (instr.Block of list ∷ []) (Block x before Empty)) st.opened.0 (block (kept list before (λ e. omega (arith, st.order.0)) st.now) none) })
+      later = st.later;
+      inside = omega (arith, st.order.0, st.inside);
+      order = st.order.2;
+      once = st.once;
+      under = st.opened.1;
+      opened = st.opened.2;
+      named = refl;
+      inner = (st.order.0, st.inside);
+      means = λ others kept. subst (λ x. Means others (instr.Block of list ∷ []) (Block x before Empty)) st.opened.0 (block (kept list before (λ e. omega (arith, st.order.0)) st.now) none);
+    })
 
 -- the end of a loop
 pub ends_loop : (lists : List (List Instr)) (fs : List Frame) (list outer : ℕ) (of t : Option ValType) (os : List Open) (before u : Sequence) →
@@ -282,9 +298,16 @@ pub ends_loop : (lists : List (List Instr)) (fs : List Frame) (list outer : ℕ)
     Stands (set lists outer (list_at lists outer ++ instr.Loop of list ∷ [])) fs outer os (append u (Loop t before Empty))
 ends_loop lists fs list outer of t os before u st =
     stands_close lists fs outer os u (Loop t before Empty) (instr.Loop of list) (list ∷ []) (record {
-      later = st.later; inside = omega (arith, st.order.0, st.inside); order = st.order.2;
-      once = st.once; under = st.opened.1; opened = st.opened.2; named = refl; inner = (st.order.0, st.inside);
-      means = λ others kept. subst (λ x. Means others (instr.Loop of list ∷ []) (Loop x before Empty)) st.opened.0 (loop (kept list before (λ e. omega (arith, st.order.0)) st.now) none) })
+      later = st.later;
+      inside = omega (arith, st.order.0, st.inside);
+      order = st.order.2;
+      once = st.once;
+      under = st.opened.1;
+      opened = st.opened.2;
+      named = refl;
+      inner = (st.order.0, st.inside);
+      means = λ others kept. subst (λ x. Means others (instr.Loop of list ∷ []) (Loop x before Empty)) st.opened.0 (loop (kept list before (λ e. omega (arith, st.order.0)) st.now) none);
+    })
 
 -- the end of the second arm of an if
 pub ends_else : (lists : List (List Instr)) (fs : List Frame) (list outer arm : ℕ) (of t : Option ValType) (os : List Open) (before one u : Sequence) →
@@ -292,12 +315,17 @@ pub ends_else : (lists : List (List Instr)) (fs : List Frame) (list outer arm : 
     Stands (set lists outer (list_at lists outer ++ instr.If of arm list ∷ [])) fs outer os (append u (If t one before Empty))
 ends_else lists fs list outer arm of t os before one u st =
     stands_close lists fs outer os u (If t one before Empty) (instr.If of arm list) (arm ∷ list ∷ []) (record {
-      later = st.later; inside = omega (arith, st.order.0, st.inside); order = st.order.2;
+      later = st.later;
+      inside = omega (arith, st.order.0, st.inside);
+      order = st.order.2;
       once = λ n h. ap (λ x. times_named lists n + x) (swapped n arm list (unnamed outer fs)) ∙ st.once n h;
-      under = st.opened.1; opened = st.opened.2; named = refl;
+      under = st.opened.1;
+      opened = st.opened.2;
+      named = refl;
       inner = ((st.order.1.0, omega (arith, st.order.1.1, st.inside)), (st.order.0, st.inside));
       means = λ others kept. subst (λ x. Means others (instr.If of arm list ∷ []) (If x one before Empty)) st.opened.0.0
-        (cases (kept arm one (λ e. omega (arith, st.order.1.0)) st.opened.0.1) (kept list before (λ e. omega (arith, st.order.0)) st.now) none) })
+          (cases (kept arm one (λ e. omega (arith, st.order.1.0)) st.opened.0.1) (kept list before (λ e. omega (arith, st.order.0)) st.now) none);
+    })
 
 -- the end of an if without a second arm, over a new empty list
 pub ends_then : (lists : List (List Instr)) (fs : List Frame) (list outer : ℕ) (of t : Option ValType) (os : List Open) (before u : Sequence) →
@@ -305,35 +333,43 @@ pub ends_then : (lists : List (List Instr)) (fs : List Frame) (list outer : ℕ)
     Stands (set (lists ++ [] ∷ []) outer (list_at (lists ++ [] ∷ []) outer ++ instr.If of list (length lists) ∷ [])) fs outer os (append u (If t before Empty Empty))
 ends_then lists fs list outer of t os before u st =
     stands_close (lists ++ [] ∷ []) fs outer os u (If t before Empty Empty) (instr.If of list (length lists)) (list ∷ length lists ∷ []) (record {
-      later = wider_later lists st.later; inside = omega (arith, st.order.0, st.inside, wider_length lists); order = st.order.2;
+      later = wider_later lists st.later;
+      inside = omega (arith, st.order.0, st.inside, wider_length lists);
+      order = st.order.2;
       once = λ n h.
-        ap (λ x. times_named (lists ++ [] ∷ []) n + x) (swapped n list (length lists) (unnamed outer fs))
-        ∙ wider_once lists (list ∷ unnamed outer fs) st.later (unnamed_past (length lists) list (record { kind = kind.Then of; outer = outer } ∷ fs) st.order st.inside) st.once n (omega (arith, h, wider_length lists));
+          ap (λ x. times_named (lists ++ [] ∷ []) n + x) (swapped n list (length lists) (unnamed outer fs))
+          ∙ wider_once lists (list ∷ unnamed outer fs) st.later (unnamed_past (length lists) list (record { kind = kind.Then of; outer = outer } ∷ fs) st.order st.inside) st.once n (omega (arith, h, wider_length lists));
       under = wider_at lists outer u st.opened.1;
       opened = opened_kept lists (lists ++ [] ∷ []) outer fs os st.order.2 (λ n s l m. wider_at lists n s m) st.opened.2;
       named = refl;
       inner = ((st.order.0, omega (arith, st.inside, wider_length lists)), (omega (arith, st.order.0, st.inside), omega (arith, wider_length lists)));
       means = λ others kept. subst (λ x. Means others (instr.If of list (length lists) ∷ []) (If x before Empty Empty)) st.opened.0
-        (cases (kept list before (λ e. omega (arith, st.order.0)) (wider_at lists list before st.now)) (kept (length lists) Empty (λ e. omega (arith, st.order.0, st.inside)) (wider_none lists)) none) })
+          (cases (kept list before (λ e. omega (arith, st.order.0)) (wider_at lists list before st.now)) (kept (length lists) Empty (λ e. omega (arith, st.order.0, st.inside)) (wider_none lists)) none);
+    })
 
 -- the beginning
 pub stands_first : Stands ([] ∷ []) [] 0 [] Empty
 stands_first = record {
   later = λ n. subst (λ is. ListNames (λ m. (n < m) × (m < 1)) is) (sym (list_at-empty [] n)) tt;
   once = λ n h. let same : 0 ≡ n = omega arith in subst (λ k. times_named ([] ∷ []) k + occurs k (0 ∷ []) ≡ 1) same refl;
-  order = refl; inside = omega arith; now = none; opened = tt
+  order = refl;
+  inside = omega arith;
+  now = none;
+  opened = tt;
 }
 
 -- the end of the expression
 pub stands_last : (lists : List (List Instr)) (list : ℕ) (os : List Open) (before : Sequence) → Stands lists [] list os before → IsNumbered lists × (nested lists 0 ≡ before)
 stands_last lists list os before st =
     let first : 0 < length lists = omega (arith, st.inside) in
-    let zero_list = st.order in
-    (record {
-      first = first;
-      inner = st.later;
-      once = λ n p h.
-        sym (add_zero (times_named lists n))
-        ∙ ap (λ x. times_named lists n + x) (sym (occurs-cons n list [] ∙ ap (λ b. cond b 1 0 + 0) (ne_eqb list n (λ e. omega (arith, st.order)))))
-        ∙ st.once n h
-    }, means_nested lists before st.later (subst (λ k. Means lists (list_at lists k) before) zero_list st.now))
+    let zero_list = st.order in (
+      record {
+        first = first;
+        inner = st.later;
+        once = λ n p h.
+            sym (add_zero (times_named lists n))
+            ∙ ap (λ x. times_named lists n + x) (sym (occurs-cons n list [] ∙ ap (λ b. cond b 1 0 + 0) (ne_eqb list n (λ e. omega (arith, st.order)))))
+            ∙ st.once n h;
+      },
+      means_nested lists before st.later (subst (λ k. Means lists (list_at lists k) before) zero_list st.now),
+    )

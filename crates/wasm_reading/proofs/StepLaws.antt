@@ -139,8 +139,15 @@ module _ (old mid : List ℕ) (b : ℕ) (h : next_at old ≡ Some (b, mid)) (n :
       opcode_at b ≡ o → blocktype_at mid ≡ Some (of, new) → Reads f (frame of ∷ os) Empty → GoesOn f old new n os before
   opened f o frame of new does e t r =
       let s = blocktype_shorter mid of new t in
-      record { left = begun.0; opens = frame of ∷ os; so_far = Empty; reads = r; fits = omega (arith, begun.1); shorter = omega (arith, shorter);
-        gives = begun_as o e ∙ does (instrs_at begun.0) ∙ ap (λ x. and_then x (λ of rest. instrs_at begun.0 (frame of ∷ os) Empty rest)) t }
+      record {
+        left = begun.0;
+        opens = frame of ∷ os;
+        so_far = Empty;
+        reads = r;
+        fits = omega (arith, begun.1);
+        shorter = omega (arith, shorter);
+        gives = begun_as o e ∙ does (instrs_at begun.0) ∙ ap (λ x. and_then x (λ of rest. instrs_at begun.0 (frame of ∷ os) Empty rest)) t;
+      }
 
   pub step_block : (f : Filling) (of : Option ValType) (new : List ℕ) → opcode_at b ≡ op.Block → blocktype_at mid ≡ Some (of, new) → Reads f (InBlock of before ∷ os) Empty → GoesOn f old new n os before
   step_block f of new = opened f op.Block (λ of. InBlock of before) of new (λ go. refl)
@@ -169,8 +176,15 @@ module _ (old mid : List ℕ) (b : ℕ) (h : next_at old ≡ Some (b, mid)) (n :
       Reads f os (append before (Plain i Empty)) → GoesOn f old new n os before
   step_plain f i new o t r =
       let s = (plain_read (opcode_at b) mid i new t).1 in
-      record { left = begun.0; opens = os; so_far = append before (Plain i Empty); reads = r; fits = omega (arith, begun.1); shorter = omega (arith, shorter);
-        gives = begun.2 ∙ plain_shape (instrs_at begun.0) (opcode_at b) os before mid o ∙ ap (λ x. and_then x (λ i rest. instrs_at begun.0 os (append before (Plain i Empty)) rest)) t }
+      record {
+        left = begun.0;
+        opens = os;
+        so_far = append before (Plain i Empty);
+        reads = r;
+        fits = omega (arith, begun.1);
+        shorter = omega (arith, shorter);
+        gives = begun.2 ∙ plain_shape (instrs_at begun.0) (opcode_at b) os before mid o ∙ ap (λ x. and_then x (λ i rest. instrs_at begun.0 os (append before (Plain i Empty)) rest)) t;
+      }
 
   pub plain_none : shape_of (opcode_at b) ≡ shape.Plain → immediates_at (opcode_at b) mid ≡ None → instrs_at n os before old ≡ None
   plain_none o t =
@@ -187,10 +201,12 @@ pub record Filled (start now : List ℕ) (f : Filling) : Type 0 where
 
 pub filled_first : (start : List ℕ) (f : Filling) → f.lists.items ≡ [] ∷ [] → f.opens.items ≡ [] → f.list ≡ 0 → Filled start start f
 filled_first start f l o n = record {
-  left = length start; opens = []; so_far = Empty;
+  left = length start;
+  opens = [];
+  so_far = Empty;
   reads = subst (λ x. Stands x (reverse f.opens.items) f.list [] Empty) (sym l) (subst (λ x. Stands ([] ∷ []) (reverse x) f.list [] Empty) (sym o) (subst (λ x. Stands ([] ∷ []) [] x [] Empty) (sym n) stands_first));
   fits = omega arith;
-  gives = refl
+  gives = refl;
 }
 
 pub filled_on : (start now new : List ℕ) (f g : Filling) (q : Filled start now f) → GoesOn g now new q.left q.opens q.so_far → Filled start new g

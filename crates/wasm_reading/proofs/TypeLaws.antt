@@ -14,10 +14,19 @@ use Rattle.wasm_reading.proofs.ReadingLaws.{chosen, chose_some, some_is, read_fi
 
 valtype_of_is : (b : ℕ) (x : ValType) → valtype_of b ≡ Some x → b ≡ valtype_byte x
 valtype_of_is b x h =
-    elim (chosen (b == 0x7F) _ _ (Some x) h) [ inl w ↦ eqb-true b 0x7F w.0 ∙ ap valtype_byte (some_is _ _ w.1) | inr w ↦
-    elim (chosen (b == 0x7E) _ _ (Some x) w.1) [ inl v ↦ eqb-true b 0x7E v.0 ∙ ap valtype_byte (some_is _ _ v.1) | inr v ↦
-    elim (chosen (b == 0x7D) _ _ (Some x) v.1) [ inl u ↦ eqb-true b 0x7D u.0 ∙ ap valtype_byte (some_is _ _ u.1) | inr u ↦
-    let t = chose_some (b == 0x7C) (Some F64) x u.1 in eqb-true b 0x7C t.0 ∙ ap valtype_byte (some_is _ _ t.1) ] ] ]
+    elim (chosen (b == 0x7F) _ _ (Some x) h) [
+      | inl w ↦ eqb-true b 0x7F w.0 ∙ ap valtype_byte (some_is _ _ w.1)
+      | inr w ↦
+          elim (chosen (b == 0x7E) _ _ (Some x) w.1) [
+            | inl v ↦ eqb-true b 0x7E v.0 ∙ ap valtype_byte (some_is _ _ v.1)
+            | inr v ↦
+                elim (chosen (b == 0x7D) _ _ (Some x) v.1) [
+                  | inl u ↦ eqb-true b 0x7D u.0 ∙ ap valtype_byte (some_is _ _ u.1)
+                  | inr u ↦
+                      let t = chose_some (b == 0x7C) (Some F64) x u.1 in eqb-true b 0x7C t.0 ∙ ap valtype_byte (some_is _ _ t.1)
+                ]
+          ]
+    ]
 
 of_valtype : (x : ValType) → valtype_of (valtype_byte x) ≡ Some x
 of_valtype I32 = refl
@@ -89,9 +98,15 @@ two_takes false b bytes l rest e h =
 memory_takes : (bytes : List ℕ) (l : Limits) (rest : List ℕ) → memory_at bytes ≡ Some (l, rest) → BeginsWith SpellsMemory bytes l rest
 memory_takes [] l rest h = cc
 memory_takes (b ∷ bytes) l rest h =
-    elim (chosen (b == 0x00) _ _ (Some (l, rest)) h) [ inl w ↦ (one_takes b bytes l rest (eqb-true b 0x00 w.0) w.1).0 | inr w ↦
-    elim (chosen (b == 0x01) _ _ (Some (l, rest)) w.1) [ inl v ↦ (two_takes false b bytes l rest (eqb-true b 0x01 v.0) v.1).0 | inr v ↦
-    let t = chose_some (b == 0x03) (mapped (two_limits true) (pair_at u32_at u32_at) bytes) (l, rest) v.1 in (two_takes true b bytes l rest (eqb-true b 0x03 t.0) t.1).0 ] ]
+    elim (chosen (b == 0x00) _ _ (Some (l, rest)) h) [
+      | inl w ↦ (one_takes b bytes l rest (eqb-true b 0x00 w.0) w.1).0
+      | inr w ↦
+          elim (chosen (b == 0x01) _ _ (Some (l, rest)) w.1) [
+            | inl v ↦ (two_takes false b bytes l rest (eqb-true b 0x01 v.0) v.1).0
+            | inr v ↦
+                let t = chose_some (b == 0x03) (mapped (two_limits true) (pair_at u32_at u32_at) bytes) (l, rest) v.1 in (two_takes true b bytes l rest (eqb-true b 0x03 t.0) t.1).0
+          ]
+    ]
 
 limits_again : (min : ℕ) (max : Option ℕ) (shared : Bool) (front rest : List ℕ) → LimitsForm min max shared front → memory_at (front ++ rest) ≡ Some (record { min = min; max = max; shared = shared }, rest)
 limits_again min None true front rest h = absurd h
@@ -118,10 +133,13 @@ unshared_form l shared bytes e f h = subst (λ s. LimitsForm l.min l.max s bytes
 unshared_takes : (bytes : List ℕ) (l : Limits) (rest : List ℕ) → unshared_at bytes ≡ Some (l, rest) → BeginsWith Unshared bytes l rest
 unshared_takes [] l rest h = cc
 unshared_takes (b ∷ bytes) l rest h =
-    elim (chosen (b == 0x00) _ _ (Some (l, rest)) h) [ inl w ↦ weaker (one_takes b bytes l rest (eqb-true b 0x00 w.0) w.1) | inr w ↦
-    let t = chose_some (b == 0x01) (mapped (two_limits false) (pair_at u32_at u32_at) bytes) (l, rest) w.1 in weaker (two_takes false b bytes l rest (eqb-true b 0x01 t.0) t.1) ] where
-  weaker : BeginsWith SpellsMemory (b ∷ bytes) l rest × (l.shared ≡ false) → BeginsWith Unshared (b ∷ bytes) l rest
-  weaker p = (p.0.0, (p.1, unshared_form l false p.0.0 p.1 refl p.0.1), p.0.2)
+    elim (chosen (b == 0x00) _ _ (Some (l, rest)) h) [
+      | inl w ↦ weaker (one_takes b bytes l rest (eqb-true b 0x00 w.0) w.1)
+      | inr w ↦
+          let t = chose_some (b == 0x01) (mapped (two_limits false) (pair_at u32_at u32_at) bytes) (l, rest) w.1 in weaker (two_takes false b bytes l rest (eqb-true b 0x01 t.0) t.1)
+    ] where
+      weaker : BeginsWith SpellsMemory (b ∷ bytes) l rest × (l.shared ≡ false) → BeginsWith Unshared (b ∷ bytes) l rest
+      weaker p = (p.0.0, (p.1, unshared_form l false p.0.0 p.1 refl p.0.1), p.0.2)
 
 unshared_again : (min : ℕ) (max : Option ℕ) (front rest : List ℕ) → LimitsForm min max false front → unshared_at (front ++ rest) ≡ Some (record { min = min; max = max; shared = false }, rest)
 unshared_again min None [] rest h = absurd h
@@ -134,7 +152,7 @@ unshared_again min (Some max) (b ∷ front) rest h =
 unshared_exact : IsExact Unshared unshared_at
 unshared_exact = record {
   takes = unshared_takes;
-  again = λ front rest l h. unshared_again l.min l.max front rest h.1 ∙ ap (λ s. Some (record { min = l.min; max = l.max; shared = s }, rest)) (sym h.0)
+  again = λ front rest l h. unshared_again l.min l.max front rest h.1 ∙ ap (λ s. Some (record { min = l.min; max = l.max; shared = s }, rest)) (sym h.0);
 }
 
 to_table : (bytes : List ℕ) (l : Limits) → Behind 0x70 (λ a. Unshared a l) bytes → SpellsTable bytes l
@@ -150,8 +168,11 @@ table_exact = exact_as SpellsTable to_table from_table (behind_exact 0x70 unshar
 
 flag_of_is : (b : ℕ) (x : Bool) → flag_of b ≡ Some x → b ≡ cond x 0x01 0x00
 flag_of_is b x h =
-    elim (chosen (b == 0x00) _ _ (Some x) h) [ inl w ↦ eqb-true b 0x00 w.0 ∙ ap (λ y. cond y 0x01 0x00) (some_is _ _ w.1) | inr w ↦
-    let t = chose_some (b == 0x01) (Some true) x w.1 in eqb-true b 0x01 t.0 ∙ ap (λ y. cond y 0x01 0x00) (some_is _ _ t.1) ]
+    elim (chosen (b == 0x00) _ _ (Some x) h) [
+      | inl w ↦ eqb-true b 0x00 w.0 ∙ ap (λ y. cond y 0x01 0x00) (some_is _ _ w.1)
+      | inr w ↦
+          let t = chose_some (b == 0x01) (Some true) x w.1 in eqb-true b 0x01 t.0 ∙ ap (λ y. cond y 0x01 0x00) (some_is _ _ t.1)
+    ]
 
 of_flag : (x : Bool) → flag_of (cond x 0x01 0x00) ≡ Some x
 of_flag true = refl

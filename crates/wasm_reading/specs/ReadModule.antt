@@ -113,8 +113,19 @@ fields_of ss =
 
 abbrev pub module_with : Fields → Module
 module_with (types, (imports, (functions, (tables, (memories, (globals, (exports, (start, (elements, (codes, segments)))))))))) =
-    record { types = types; imports = imports; functions = functions; tables = tables; memories = memories; globals = globals;
-      exports = exports; start = start; elements = elements; codes = codes; segments = segments }
+    record {
+      types = types;
+      imports = imports;
+      functions = functions;
+      tables = tables;
+      memories = memories;
+      globals = globals;
+      exports = exports;
+      start = start;
+      elements = elements;
+      codes = codes;
+      segments = segments;
+    }
 
 -- the module, where it has as many functions as codes
 abbrev pub counted : Module → Option Module

@@ -103,12 +103,8 @@ pub(crate) fn immediates(
     ensures { Gives (λ x. x) result cursor.new (immediates_at opcode cursor.old) }
 {
     match opcode {
-        Opcode::Illegal
-        | Opcode::Block
-        | Opcode::Loop
-        | Opcode::If
-        | Opcode::Else
-        | Opcode::End => Err(ReadFault::Malformed),
+        Opcode::Illegal | Opcode::Block | Opcode::Loop | Opcode::If | Opcode::Else | Opcode::End =>
+            Err(ReadFault::Malformed),
         Opcode::Unreachable => Ok(Instr::Unreachable),
         Opcode::Nop => Ok(Instr::Nop),
         Opcode::Br => {

@@ -11,6 +11,8 @@ mod fault;
 mod instrs;
 mod modules;
 mod parts;
+#[cfg(test)]
+mod tests;
 mod types;
 
 pub use fault::ReadFault;
@@ -19,5 +21,4 @@ pub use modules::read;
 /// Bytes spell at most one module.
 pub fn bytes_spell_one_module()
     ensures { (bytes : List ℕ) (m n : Module) → SpellsModule bytes m → SpellsModule bytes n → m ≡ n }
-{
-}
+{}

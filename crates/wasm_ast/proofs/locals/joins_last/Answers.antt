@@ -1,4 +1,4 @@
-use Rattle.std.proofs.Common.{◌≡◌, suc, ◌-◌, ◌+◌, ◌<◌, ◌≤◌, length, arith, refl, ◌∙◌, sym}
+use Rattle.std.proofs.Common.{◌≤◌, arith, ◌∙◌, sym}
 use Rattle.wasm_ast.specs.Locals.{total}
 use Rattle.wasm_ast.proofs.LocalsLemmas.{joined_at, joined_behind, count_at, set_back}
 use Rattle.wasm_ast.proofs.locals.joins_last.Goals as goal

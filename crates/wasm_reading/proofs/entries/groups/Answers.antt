@@ -8,7 +8,7 @@ pub returns-in_err-group : goal.returns-in_err-group
 returns-in_err-group c =
     let p = err_from_is_err_and c.from_residual.result c.from_residual.ensures.1 in
     rw (p.1, p.2) (handed_on c.in_err-group.field-0.0 _ _ c.in_err-group.ensures
-      (groups_broken c.args.n c.args.cursor.now c.loop.counter c.loop.count c.loop.locals c.loop.cursor c.loop.invariant c.loop-test.true))
+    (groups_broken c.args.n c.args.cursor.now c.loop.counter c.loop.count c.loop.locals c.loop.cursor c.loop.invariant c.loop-test.true))
 
 pub returns-then-count-group : goal.returns-then-count-group
 returns-then-count-group c =

@@ -12,20 +12,20 @@ pub new-requires-then-last : goal.new-requires-then-last
 new-requires-then-last c =
     let q = c.loop-filling.invariant in
     (filled_last c.args.cursor.now c.loop-filling.cursor c.step.new.cursor c.loop-filling.filling c.step.new.self q
-      (subst (λ b. Stepped (Ok b) c.step.new.self c.loop-filling.cursor c.step.new.cursor q.left q.opens q.so_far) c.if-last.true (c.in_ok-last.ensures q.left q.opens q.so_far q.reads q.fits))).0
+    (subst (λ b. Stepped (Ok b) c.step.new.self c.loop-filling.cursor c.step.new.cursor q.left q.opens q.so_far) c.if-last.true (c.in_ok-last.ensures q.left q.opens q.so_far q.reads q.fits))).0
 
 pub returns-then-last : goal.returns-then-last
 returns-then-last c =
     let q = c.loop-filling.invariant in
     (filled_last c.args.cursor.now c.loop-filling.cursor c.step.new.cursor c.loop-filling.filling c.step.new.self q
-      (subst (λ b. Stepped (Ok b) c.step.new.self c.loop-filling.cursor c.step.new.cursor q.left q.opens q.so_far) c.if-last.true (c.in_ok-last.ensures q.left q.opens q.so_far q.reads q.fits))).1
+    (subst (λ b. Stepped (Ok b) c.step.new.self c.loop-filling.cursor c.step.new.cursor q.left q.opens q.so_far) c.if-last.true (c.in_ok-last.ensures q.left q.opens q.so_far q.reads q.fits))).1
     ∙ ap (λ b. Some (b, c.step.new.cursor)) (sym c.new-then-last.ensures)
 
 pub loop-filling-smaller : goal.loop-filling-smaller
 loop-filling-smaller c =
     let q = c.loop-filling.invariant in
     let s : GoesOn c.step.new.self c.loop-filling.cursor c.step.new.cursor q.left q.opens q.so_far =
-      subst (λ b. Stepped (Ok b) c.step.new.self c.loop-filling.cursor c.step.new.cursor q.left q.opens q.so_far) c.if-last.false (c.in_ok-last.ensures q.left q.opens q.so_far q.reads q.fits) in
+    subst (λ b. Stepped (Ok b) c.step.new.self c.loop-filling.cursor c.step.new.cursor q.left q.opens q.so_far) c.if-last.false (c.in_ok-last.ensures q.left q.opens q.so_far q.reads q.fits) in
     s.shorter
 
 pub loop-filling-preserved : goal.loop-filling-preserved

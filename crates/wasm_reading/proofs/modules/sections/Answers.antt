@@ -16,14 +16,14 @@ pub loop-cursor-preserved : goal.loop-cursor-preserved
 loop-cursor-preserved c =
     let more = ap views c.in_ok-push.ensures.items ∙ map_push view c.loop-cursor.parts.items (record { id = c.in_ok-id.id; content = c.in_ok-content.content }) in
     elim c.if-id-eq0.branch [
-      then-id-eq0+in_ok-_name w ↦
-        subst (λ n. Split c.new-cursor.result (views c.push.new.self.items) n c.bytes.new.cursor) (sym w.least-is)
-        (split_custom c.new-cursor.result (views c.loop-cursor.parts.items) c.loop-cursor.least c.loop-cursor.cursor c.next.new.cursor c.bytes.new.cursor c.in_ok-content.content.now c.in_ok-id.id
+      | then-id-eq0+in_ok-_name w ↦
+          subst (λ n. Split c.new-cursor.result (views c.push.new.self.items) n c.bytes.new.cursor) (sym w.least-is)
+          (split_custom c.new-cursor.result (views c.loop-cursor.parts.items) c.loop-cursor.least c.loop-cursor.cursor c.next.new.cursor c.bytes.new.cursor c.in_ok-content.content.now c.in_ok-id.id
           c.loop-cursor.invariant c.in_ok-id.ensures c.in_ok-content.ensures (views c.push.new.self.items) w.if-id-eq0.true
           (ap (λ b. is_some (name_at b)) (sym w.new-custom.ensures) ∙ ap is_some w.in_ok-_name.ensures) more)
-    | else-id-eq0+else-id-least+else-id-gt11 w ↦
-        subst (λ n. Split c.new-cursor.result (views c.push.new.self.items) n c.bytes.new.cursor) (sym w.least-is)
-        (split_known c.new-cursor.result (views c.loop-cursor.parts.items) c.loop-cursor.least c.loop-cursor.cursor c.next.new.cursor c.bytes.new.cursor c.in_ok-content.content.now c.in_ok-id.id
+      | else-id-eq0+else-id-least+else-id-gt11 w ↦
+          subst (λ n. Split c.new-cursor.result (views c.push.new.self.items) n c.bytes.new.cursor) (sym w.least-is)
+          (split_known c.new-cursor.result (views c.loop-cursor.parts.items) c.loop-cursor.least c.loop-cursor.cursor c.next.new.cursor c.bytes.new.cursor c.in_ok-content.content.now c.in_ok-id.id
           c.loop-cursor.invariant c.in_ok-id.ensures c.in_ok-content.ensures (views c.push.new.self.items) w.if-id-eq0.false w.if-id-least.false w.if-id-gt11.false more)
     ]
 

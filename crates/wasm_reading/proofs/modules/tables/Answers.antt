@@ -11,7 +11,7 @@ pub returns-in_err-table : goal.returns-in_err-table
 returns-in_err-table c =
     let p = err_from_is_err_and c.from_residual.result c.from_residual.ensures.1 in
     rw (p.1, p.2) (handed_on c.in_err-table.field-0.0 _ _ c.in_err-table.ensures
-      (begun_none_left table_at c.args.n c.args.cursor.now c.loop.counter _ _ c.loop.invariant c.loop-test.true))
+    (begun_none_left table_at c.args.n c.args.cursor.now c.loop.counter _ _ c.loop.invariant c.loop-test.true))
 
 pub loop-preserved : goal.loop-preserved
 loop-preserved c = begun_more table_at c.args.n c.args.cursor.now c.loop.counter _ _ _ _ _ c.loop.invariant c.in_ok-table.ensures c.in_ok-push.ensures.items

@@ -1,5 +1,4 @@
-use Rattle.std.proofs.Common.{◌≡◌, ◌+◌, ◌<◌, ◌^◌, arith}
-use Rattle.wasm_ast.specs.Locals.{total}
+use Rattle.std.proofs.Common.{arith}
 use Rattle.wasm_ast.proofs.LocalsLemmas.{locals-joined}
 use Rattle.wasm_ast.proofs.locals.Locals.add.Goals as goal
 

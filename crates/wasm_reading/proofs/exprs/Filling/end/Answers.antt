@@ -62,7 +62,7 @@ returns-in_ok-close-in-Then c = λ os before st.
     let number = c.in_ok-otherwise-in-Then.ensures.0 in
     closed_as c.close-in-Then.new.self.lists.items (set (lists ++ [] ∷ []) outer (list_at (lists ++ [] ∷ []) outer ++ instr.If c.in-Then.of list (length lists) ∷ [])) mid c.close-in-Then.new.self.opens.items outer c.close-in-Then.new.self.list os before
     (c.in_ok-close-in-Then.ensures.0
-      ∙ ap (λ (x : List (List Instr)). set x outer (list_at x outer ++ instr.If c.in-Then.of list n ∷ [])) wide
-      ∙ ap (λ m. set (lists ++ [] ∷ []) outer (list_at (lists ++ [] ∷ []) outer ++ instr.If c.in-Then.of list m ∷ [])) number)
+    ∙ ap (λ (x : List (List Instr)). set x outer (list_at x outer ++ instr.If c.in-Then.of list n ∷ [])) wide
+    ∙ ap (λ m. set (lists ++ [] ∷ []) outer (list_at (lists ++ [] ∷ []) outer ++ instr.If c.in-Then.of list m ∷ [])) number)
     (ap (λ v. v.items) c.in_ok-close-in-Then.ensures.1) c.in_ok-close-in-Then.ensures.2
     (ended_then lists (reverse mid) list outer c.in-Then.of os before p)

@@ -38,7 +38,7 @@ returns-in_err-of-in-Block c = λ n os before st l.
     let o : opcode_at c.in_ok-byte.byte ≡ op.Block = sym c.opcode-begun.ensures ∙ shape_block c.opcode-begun.result (sym c.in-Block.ensures) in
     let p = err_from_is_err_and c.from_residual-in_err-of-in-Block.result c.from_residual-in_err-of-in-Block.ensures.1 in
     rw (p.1, p.2) (handed_on c.in_err-of-in-Block.field-0.0 _ _ c.in_err-of-in-Block.ensures
-      (block_none c.args.cursor.now c.next.new.cursor c.in_ok-byte.byte c.in_ok-byte.ensures n os before l o))
+    (block_none c.args.cursor.now c.next.new.cursor c.in_ok-byte.byte c.in_ok-byte.ensures n os before l o))
 
 pub returns-in_ok-open-in-Block : goal.returns-in_ok-open-in-Block
 returns-in_ok-open-in-Block c = λ n os before st l.
@@ -51,7 +51,7 @@ returns-in_err-of-in-Loop c = λ n os before st l.
     let o : opcode_at c.in_ok-byte.byte ≡ op.Loop = sym c.opcode-begun.ensures ∙ shape_loop c.opcode-begun.result (sym c.in-Loop.ensures) in
     let p = err_from_is_err_and c.from_residual-in_err-of-in-Loop.result c.from_residual-in_err-of-in-Loop.ensures.1 in
     rw (p.1, p.2) (handed_on c.in_err-of-in-Loop.field-0.0 _ _ c.in_err-of-in-Loop.ensures
-      (loop_none c.args.cursor.now c.next.new.cursor c.in_ok-byte.byte c.in_ok-byte.ensures n os before l o))
+    (loop_none c.args.cursor.now c.next.new.cursor c.in_ok-byte.byte c.in_ok-byte.ensures n os before l o))
 
 pub returns-in_ok-open-in-Loop : goal.returns-in_ok-open-in-Loop
 returns-in_ok-open-in-Loop c = λ n os before st l.
@@ -64,7 +64,7 @@ returns-in_err-of-in-If c = λ n os before st l.
     let o : opcode_at c.in_ok-byte.byte ≡ op.If = sym c.opcode-begun.ensures ∙ shape_if c.opcode-begun.result (sym c.in-If.ensures) in
     let p = err_from_is_err_and c.from_residual-in_err-of-in-If.result c.from_residual-in_err-of-in-If.ensures.1 in
     rw (p.1, p.2) (handed_on c.in_err-of-in-If.field-0.0 _ _ c.in_err-of-in-If.ensures
-      (if_none c.args.cursor.now c.next.new.cursor c.in_ok-byte.byte c.in_ok-byte.ensures n os before l o))
+    (if_none c.args.cursor.now c.next.new.cursor c.in_ok-byte.byte c.in_ok-byte.ensures n os before l o))
 
 pub returns-in_ok-open-in-If : goal.returns-in_ok-open-in-If
 returns-in_ok-open-in-If c = λ n os before st l.
@@ -77,7 +77,7 @@ returns-in_err-instr-in-Plain c = λ n os before st l.
     let o : shape_of (opcode_at c.in_ok-byte.byte) ≡ shape.Plain = subst (λ x. shape_of x ≡ shape.Plain) c.opcode-begun.ensures (sym c.in-Plain.ensures) in
     let p = err_from_is_err_and c.from_residual-in_err-instr-in-Plain.result c.from_residual-in_err-instr-in-Plain.ensures.1 in
     rw (p.1, p.2) (handed_on c.in_err-instr-in-Plain.field-0.0 _ _ c.in_err-instr-in-Plain.ensures
-      (λ h. plain_none c.args.cursor.now c.next.new.cursor c.in_ok-byte.byte c.in_ok-byte.ensures n os before l o (subst (λ x. immediates_at x c.next.new.cursor ≡ None) c.opcode-begun.ensures h)))
+    (λ h. plain_none c.args.cursor.now c.next.new.cursor c.in_ok-byte.byte c.in_ok-byte.ensures n os before l o (subst (λ x. immediates_at x c.next.new.cursor ≡ None) c.opcode-begun.ensures h)))
 
 pub returns-in_ok-plain-in-Plain : goal.returns-in_ok-plain-in-Plain
 returns-in_ok-plain-in-Plain c = λ n os before st l.
