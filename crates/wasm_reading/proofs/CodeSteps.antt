@@ -1,18 +1,18 @@
 -- The steps as the code makes them: the constructs that are open stand innermost last.
-use Rattle.std.proofs.Common.{◌≡◌, ℕ, zero, suc, ◌+◌, ◌<◌, ◌≤◌, Bool, true, false, List, [], ◌∷◌, ◌++◌, length, reverse, Option, Some, None, refl, sym, ◌∙◌, ap, subst, arith, length-append}
+use Rattle.std.proofs.Common.{◌≡◌, ℕ, ◌<◌, List, [], ◌∷◌, ◌++◌, length, reverse, Option, refl, sym, ◌∙◌, ap, subst, arith}
 use Rattle.std.proofs.Math.ListN.{set}
-use Rattle.std.proofs.lemmas.List.{reverse-append, append-nil}
+use Rattle.std.proofs.lemmas.List.{reverse-append}
 use Rattle.wasm_ast.specs.declared.types.ValType.{ValType}
 use Rattle.wasm_ast.specs.declared.instr.Instr.{Instr}
 use Rattle.wasm_ast.specs.declared.instr.Instr.TheVariants as instr
-use Rattle.wasm_ast.specs.Sequence.{Sequence, Empty, Plain, Block, Loop, If}
+use Rattle.wasm_ast.specs.Sequence.{Sequence, Empty}
 use Rattle.wasm_ast.specs.Numbering.{list_at}
 use Rattle.wasm_reading.specs.declared.exprs.Kind.{Kind}
 use Rattle.wasm_reading.specs.declared.exprs.Kind.TheVariants as kind
 use Rattle.wasm_reading.specs.declared.exprs.Frame.{Frame}
-use Rattle.wasm_reading.specs.ReadInstr.{append, Open, InBlock, InLoop, InThen, InElse}
-use Rattle.wasm_reading.specs.Filling.{NamesNone, waiting, unnamed, ArmIn, KindMeans, under, Opened, Stands, Begins, Ends, Turns, CannotTurn}
-use Rattle.wasm_reading.proofs.Standing.{stands_plain, stands_open, stands_else, ends_block, ends_loop, ends_then, ends_else}
+use Rattle.wasm_reading.specs.ReadInstr.{Open, InBlock, InLoop, InThen, InElse}
+use Rattle.wasm_reading.specs.Filling.{waiting, unnamed, ArmIn, KindMeans, under, Opened, Stands, Begins, Ends, Turns, CannotTurn}
+use Rattle.wasm_reading.proofs.Standing.{stands_open, stands_else, ends_block, ends_loop, ends_then, ends_else}
 
 reverse_last : (fs : List Frame) (f : Frame) → reverse (fs ++ f ∷ []) ≡ f ∷ reverse fs
 reverse_last fs f = reverse-append fs (f ∷ [])

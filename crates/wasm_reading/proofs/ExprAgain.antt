@@ -1,6 +1,5 @@
 -- What is spelled as an expression is read so.
-use Rattle.std.proofs.Common.{◌≡◌, ◌⊎◌, inl, inr, ℕ, zero, suc, ◌+◌, ◌<◌, ◌≤◌, List, [], ◌∷◌, ◌++◌, length, Option, Some, None, refl, sym, ◌∙◌, ap, subst, arith, append_assoc, length-append}
-use Rattle.byte_cursor.specs.Integers.{BeginsWith}
+use Rattle.std.proofs.Common.{◌≡◌, ◌⊎◌, inl, inr, ℕ, zero, suc, ◌≤◌, List, [], ◌∷◌, ◌++◌, length, Option, Some, refl, sym, ◌∙◌, ap, subst, arith, append_assoc, length-append}
 use Rattle.wasm_ast.specs.declared.types.ValType.{ValType}
 use Rattle.wasm_ast.specs.declared.instr.Instr.{Instr}
 use Rattle.wasm_ast.specs.declared.opcode.Opcode.{Opcode}
@@ -11,8 +10,7 @@ use Rattle.wasm_ast.specs.SpelledTypes.{SpellsBlockType}
 use Rattle.wasm_ast.specs.SpelledInstr.{opcode_at, Immediates, SpellsPlain, Opens, SpellsSequence, SpellsExpr}
 use Rattle.wasm_reading.specs.Reading.{and_then, IsExact}
 use Rattle.wasm_reading.specs.ReadTypes.{blocktype_at}
-use Rattle.wasm_reading.specs.ReadInstr.{immediates_at, append, Open, InBlock, InLoop, InThen, InElse, Going, end_at, else_at, behind_opcode, instrs_at, expr_at}
-use Rattle.wasm_reading.proofs.ReadingLaws.{some_is, read_first}
+use Rattle.wasm_reading.specs.ReadInstr.{append, Open, InBlock, InLoop, InThen, InElse, Going, end_at, behind_opcode, instrs_at, expr_at}
 use Rattle.wasm_reading.proofs.TypeLaws.{blocktype_exact}
 use Rattle.wasm_reading.proofs.InstrLaws.{immediates_exact}
 use Rattle.wasm_reading.proofs.Sequences.{append-empty, append-append}

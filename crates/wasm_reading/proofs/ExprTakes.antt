@@ -1,5 +1,5 @@
 -- What is read as an expression is spelled so.
-use Rattle.std.proofs.Common.{◌≡◌, ◌⊎◌, inl, inr, ℕ, zero, suc, ◌+◌, ◌<◌, ◌≤◌, List, [], ◌∷◌, ◌++◌, length, Option, Some, None, refl, sym, ◌∙◌, ap, subst, arith, append_assoc, length-append}
+use Rattle.std.proofs.Common.{◌≡◌, ◌⊎◌, inl, inr, ℕ, zero, suc, List, [], ◌∷◌, ◌++◌, length, Option, Some, refl, sym, ◌∙◌, ap, subst, append_assoc}
 use Rattle.byte_cursor.specs.Integers.{BeginsWith}
 use Rattle.wasm_ast.specs.declared.types.ValType.{ValType}
 use Rattle.wasm_ast.specs.declared.instr.Instr.{Instr}
@@ -9,7 +9,7 @@ use Rattle.wasm_ast.specs.Sequence.{Sequence, Empty, Plain, Block, Loop, If}
 use Rattle.wasm_ast.specs.Spelling.{Joined}
 use Rattle.wasm_ast.specs.SpelledTypes.{SpellsBlockType}
 use Rattle.wasm_ast.specs.SpelledInstr.{opcode_at, Immediates, SpellsPlain, Opens, SpellsSequence, SpellsExpr}
-use Rattle.wasm_reading.specs.Reading.{and_then, IsExact}
+use Rattle.wasm_reading.specs.Reading.{and_then}
 use Rattle.wasm_reading.specs.ReadTypes.{blocktype_at}
 use Rattle.wasm_reading.specs.ReadInstr.{immediates_at, append, Open, InBlock, InLoop, InThen, InElse, Going, end_at, else_at, behind_opcode, instrs_at, expr_at}
 use Rattle.wasm_reading.proofs.ReadingLaws.{some_is, read_first}

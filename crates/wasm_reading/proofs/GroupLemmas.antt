@@ -1,5 +1,5 @@
 -- A loop that reads groups of locals.
-use Rattle.std.proofs.Common.{◌≡◌, ℕ, zero, suc, ◌+◌, ◌-◌, ◌<◌, ◌≤◌, ◌^◌, ◌==◌, nat_lt, Bool, true, false, cond, List, [], ◌∷◌, Option, Some, None, refl, sym, ◌∙◌, ap, subst, arith, lt-ltb, le-ltb, eqb-true}
+use Rattle.std.proofs.Common.{◌≡◌, ℕ, suc, ◌+◌, ◌-◌, ◌<◌, ◌^◌, ◌==◌, nat_lt, Bool, true, false, cond, List, [], Some, None, refl, sym, ◌∙◌, ap, arith, lt-ltb, le-ltb, eqb-true}
 use Rattle.wasm_ast.specs.declared.locals.LocalGroup.{LocalGroup}
 use Rattle.wasm_ast.specs.Locals.{total, joined, added}
 use Rattle.wasm_ast.proofs.LocalsLemmas.{total-joined}

@@ -1,8 +1,6 @@
 -- Reading instructions takes just what is spelled so.
-use Rattle.std.proofs.Common.{◌≡◌, ◌⊎◌, inl, inr, ℕ, ℤ, zero, suc, ◌+◌, ◌<◌, ◌≤◌, List, [], ◌∷◌, ◌++◌, length, Option, Some, None, refl, sym, ◌∙◌, ap, subst, arith, append_assoc, length-append}
-use Rattle.std.proofs.lemmas.List.{append-nil}
-use Rattle.byte_cursor.specs.Integers.{BeginsWith, SpellsSigned}
-use Rattle.wasm_ast.specs.declared.types.ValType.{ValType}
+use Rattle.std.proofs.Common.{◌≡◌, ℕ, List, [], ◌∷◌, ◌++◌, length, Option, Some, None, refl, sym, ◌∙◌, ap}
+use Rattle.byte_cursor.specs.Integers.{BeginsWith}
 use Rattle.wasm_ast.specs.declared.instr.Instr.{Instr}
 use Rattle.wasm_ast.specs.declared.instr.Instr.TheVariants as instr
 use Rattle.wasm_ast.specs.declared.instr.MemArg.{MemArg}
@@ -10,14 +8,11 @@ use Rattle.wasm_ast.specs.declared.opcode.Opcode.{Opcode}
 use Rattle.wasm_ast.specs.declared.opcode.Opcode.TheVariants as op
 use Rattle.wasm_ast.specs.declared.opcode.AtomicOpcode.{AtomicOpcode}
 use Rattle.wasm_ast.specs.declared.opcode.AtomicOpcode.TheVariants as atomic
-use Rattle.wasm_ast.specs.Sequence.{Sequence, Empty, Plain, Block, Loop, If}
 use Rattle.wasm_ast.specs.Spelling.{Joined, Behind, SpellsU32, SpellsVec}
-use Rattle.wasm_ast.specs.SpelledTypes.{SpellsBlockType}
-use Rattle.wasm_ast.specs.SpelledInstr.{opcode_at, atomic_at, SpellsMemArg, AtomicImmediates, SpellsAtomic, Immediates, SpellsPlain, Opens, SpellsSequence, SpellsExpr}
-use Rattle.wasm_reading.specs.Reading.{and_then, mapped, pair_at, behind_at, span_at, u32_at, i32_at, i64_at, vec_at, IsExact}
-use Rattle.wasm_reading.specs.ReadTypes.{blocktype_at}
+use Rattle.wasm_ast.specs.SpelledInstr.{atomic_at, SpellsMemArg, AtomicImmediates, SpellsAtomic, Immediates}
+use Rattle.wasm_reading.specs.Reading.{mapped, pair_at, span_at, u32_at, vec_at, IsExact}
 use Rattle.wasm_reading.specs.ReadInstr.{nothing_at, zero_at, memarg_at, atomic_immediates_at, atomic_instr_at, immediates_at}
-use Rattle.wasm_reading.proofs.ReadingLaws.{some_is, read_first, mapped_exact, pair_exact, behind_exact, u32_exact, i32_exact, i64_exact, vec_exact, floats_exact, exact_as}
+use Rattle.wasm_reading.proofs.ReadingLaws.{some_is, mapped_exact, pair_exact, behind_exact, u32_exact, i32_exact, i64_exact, vec_exact, floats_exact, exact_as}
 
 abbrev Nothing : {X : Type 0} → X → List ℕ → X → Type 0
 Nothing x bytes y = (bytes ≡ []) × (y ≡ x)

@@ -1,5 +1,5 @@
 -- A loop that reads so many items.
-use Rattle.std.proofs.Common.{◌≡◌, ℕ, zero, suc, ◌+◌, ◌<◌, ◌≤◌, List, [], ◌∷◌, ◌++◌, Option, Some, None, Result, Ok, Err, refl, sym, ◌∙◌, ap, subst, arith, append_assoc, ◌-◌, add-one}
+use Rattle.std.proofs.Common.{◌≡◌, ℕ, suc, ◌+◌, ◌<◌, List, [], ◌∷◌, ◌++◌, Option, Some, None, refl, sym, ◌∙◌, ap, arith, append_assoc, ◌-◌}
 use Rattle.std.proofs.lemmas.List.{append-nil}
 use Rattle.wasm_reading.specs.declared.fault.ReadFault.{ReadFault}
 use Rattle.wasm_reading.specs.declared.fault.ReadFault.TheVariants.{Malformed, Memory}

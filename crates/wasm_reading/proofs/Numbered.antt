@@ -1,19 +1,17 @@
 -- Lists of instructions that are being filled, and what they mean.
-use Rattle.std.proofs.Common.{◌≡◌, ◌≢◌, ℕ, zero, suc, ◌+◌, ◌<◌, ◌≤◌, ◌==◌, Bool, true, false, cond, List, [], ◌∷◌, ◌++◌, length, get_or, Option, refl, sym, ◌∙◌, ap, subst, arith, length-append, eqb-true, eq-eqb, ne_eqb, zero-add}
-use Rattle.std.specs.List.{flat_map, count_by}
+use Rattle.std.proofs.Common.{◌≡◌, ◌≢◌, ℕ, zero, suc, ◌+◌, ◌<◌, ◌≤◌, ◌==◌, Bool, true, false, cond, List, [], ◌∷◌, ◌++◌, length, refl, sym, ◌∙◌, ap, subst, arith, eq-eqb, ne_eqb, zero-add}
+use Rattle.std.specs.List.{flat_map}
 use Rattle.std.proofs.lemmas.List.{append-nil}
 use Rattle.std.proofs.lemmas.List.Sums.{sum_by-append}
 use Rattle.std.proofs.lemmas.Grind.{flat_map-append}
 use Rattle.wasm_ast.proofs.NumberingLemmas.{nested-step}
 use Rattle.std.proofs.Math.ListN.{set}
-use Rattle.wasm_ast.specs.declared.types.ValType.{ValType}
 use Rattle.wasm_ast.specs.declared.instr.Instr.{Instr}
 use Rattle.wasm_ast.specs.declared.instr.Instr.TheVariants as instr
-use Rattle.wasm_ast.specs.Sequence.{Sequence, Empty, Plain, Block, Loop, If}
+use Rattle.wasm_ast.specs.Sequence.{Sequence, Plain, Block, Loop, If}
 use Rattle.wasm_ast.specs.Numbering.{list_at, names, times_named, InstrNames, ListNames, sequence, in_front, within, nested}
 use Rattle.wasm_reading.specs.ReadInstr.{append}
 use Rattle.wasm_reading.specs.Filling.{NamesNone, Means, none, plain, block, loop, cases, Later, occurs}
-use Rattle.wasm_reading.proofs.Sequences.{append-append}
 
 -- a further instruction
 pub means_more : {lists : List (List Instr)} {is : List Instr} {s : Sequence} (i : Instr) (t : Sequence) → Means lists is s → Means lists (i ∷ []) t → Means lists (is ++ i ∷ []) (append s t)

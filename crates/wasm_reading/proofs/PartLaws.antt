@@ -1,24 +1,17 @@
 -- Reading the parts of a module takes just what is spelled so.
-use Rattle.std.proofs.Common.{◌≡◌, ◌⊎◌, inl, inr, ℕ, zero, suc, ◌+◌, ◌<◌, ◌≤◌, ◌^◌, ◌==◌, nat_lt, Bool, true, false, cond, List, [], ◌∷◌, ◌++◌, length, Option, Some, None, refl, sym, ◌∙◌, ap, subst, arith, eqb-true, ltb-true, lt-ltb, append_assoc}
+use Rattle.std.proofs.Common.{◌≡◌, inl, inr, ℕ, zero, suc, ◌+◌, ◌<◌, ◌^◌, ◌==◌, nat_lt, true, cond, List, [], ◌∷◌, ◌++◌, length, Option, Some, None, refl, sym, ◌∙◌, ap, subst, arith, eqb-true, ltb-true, lt-ltb}
 use Rattle.byte_cursor.specs.Integers.{BeginsWith}
-use Rattle.wasm_ast.specs.declared.types.FuncType.{FuncType}
 use Rattle.wasm_ast.specs.declared.locals.LocalGroup.{LocalGroup}
 use Rattle.wasm_ast.specs.declared.module.ImportKind.{ImportKind}
 use Rattle.wasm_ast.specs.declared.module.ImportKind.TheVariants as imported
-use Rattle.wasm_ast.specs.declared.module.Import.{Import}
-use Rattle.wasm_ast.specs.declared.module.GlobalVar.{GlobalVar}
 use Rattle.wasm_ast.specs.declared.module.ExportKind.{ExportKind}
 use Rattle.wasm_ast.specs.declared.module.ExportKind.TheVariants as exported
-use Rattle.wasm_ast.specs.declared.module.Export.{Export}
-use Rattle.wasm_ast.specs.declared.module.Element.{Element}
-use Rattle.wasm_ast.specs.declared.module.Segment.{Segment}
-use Rattle.wasm_ast.specs.declared.module.Code.{Code}
 use Rattle.wasm_ast.specs.Locals.{added, total}
-use Rattle.wasm_ast.specs.Spelling.{Joined, SpellsU32, SpellsEach, SpellsVec}
+use Rattle.wasm_ast.specs.Spelling.{Joined, SpellsU32, SpellsEach}
 use Rattle.wasm_ast.specs.SpelledModule.{SpellsImportKind, SpellsImport, SpellsGlobal, SpellsExportKind, SpellsExport, SpellsElement, SpellsSegment, SpellsGroup, SpellsLocals, SpellsCode, gathered}
 use Rattle.wasm_ast.specs.SpelledInstr.{SpellsExpr}
 use Rattle.wasm_reading.specs.Reading.{and_then, mapped, u32_at, IsExact}
-use Rattle.wasm_reading.specs.ReadTypes.{memory_at, table_at, globaltype_at}
+use Rattle.wasm_reading.specs.ReadTypes.{globaltype_at}
 use Rattle.wasm_reading.specs.ReadModule.{import_kind_at, import_at, global_at, export_kind_at, export_at, element_at, segment_at, group_at, groups_at, locals_at, code_at}
 use Rattle.wasm_reading.proofs.ReadingLaws.{chosen, chose_some, some_is, read_first, begins_joined, joined_again, mapped_exact, pair_exact, u32_exact, vec_exact, bytes_exact, name_exact, sized_exact}
 use Rattle.wasm_reading.proofs.TypeLaws.{valtype_exact, memory_exact, table_exact, globaltype_exact}

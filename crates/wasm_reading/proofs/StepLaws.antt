@@ -1,5 +1,5 @@
 -- What a step answers.
-use Rattle.std.proofs.Common.{◌≡◌, ℕ, zero, suc, ◌+◌, ◌<◌, ◌≤◌, Bool, true, false, List, [], ◌∷◌, ◌++◌, length, reverse, Option, Some, None, Result, Ok, Err, refl, sym, ◌∙◌, ap, subst, arith}
+use Rattle.std.proofs.Common.{◌≡◌, ℕ, ◌<◌, ◌≤◌, Bool, true, false, List, [], ◌∷◌, length, reverse, Option, Some, None, Ok, refl, sym, ◌∙◌, ap, subst, arith}
 use Rattle.std.specs.Bool.{MatchBool}
 use Rattle.wasm_ast.specs.declared.types.ValType.{ValType}
 use Rattle.wasm_ast.specs.declared.instr.Instr.{Instr}
@@ -9,7 +9,6 @@ use Rattle.wasm_ast.specs.Sequence.{Sequence, Empty, Plain, Block, Loop, If}
 use Rattle.wasm_ast.specs.SpelledInstr.{opcode_at}
 use Rattle.wasm_ast.specs.Numbering.{IsNumbered, nested}
 use Rattle.wasm_reading.specs.declared.exprs.Filling.{Filling}
-use Rattle.wasm_reading.specs.declared.exprs.Shape.{Shape}
 use Rattle.wasm_reading.specs.declared.exprs.Shape.TheVariants as shape
 use Rattle.wasm_reading.specs.Reading.{and_then, next_at}
 use Rattle.wasm_reading.specs.ReadTypes.{blocktype_at}

@@ -1,17 +1,15 @@
 -- A step of the reading of an expression.
-use Rattle.std.proofs.Common.{◌≡◌, ℕ, zero, suc, ◌+◌, ◌<◌, ◌≤◌, Bool, true, false, List, [], ◌∷◌, ◌++◌, length, Option, Some, None, Result, Ok, Err, refl, sym, ◌∙◌, ap, subst, arith, length-append}
+use Rattle.std.proofs.Common.{◌≡◌, ℕ, zero, suc, ◌≤◌, List, [], ◌∷◌, length, Option, Some, None, refl, sym, ◌∙◌, ap, subst, arith, length-append}
 use Rattle.wasm_ast.specs.declared.types.ValType.{ValType}
 use Rattle.wasm_ast.specs.declared.instr.Instr.{Instr}
-use Rattle.wasm_ast.specs.declared.instr.Instr.TheVariants as instr
 use Rattle.wasm_ast.specs.declared.opcode.Opcode.{Opcode}
 use Rattle.wasm_ast.specs.declared.opcode.Opcode.TheVariants as op
 use Rattle.wasm_ast.specs.declared.opcode.AtomicOpcode.{AtomicOpcode}
 use Rattle.wasm_ast.specs.declared.opcode.AtomicOpcode.TheVariants as atomic
-use Rattle.wasm_ast.specs.Sequence.{Sequence, Empty, Plain, Block, Loop, If}
+use Rattle.wasm_ast.specs.Sequence.{Sequence}
 use Rattle.wasm_ast.specs.SpelledInstr.{opcode_at, atomic_at, AtomicImmediates, SpellsAtomic, Immediates}
-use Rattle.wasm_reading.specs.Reading.{and_then}
 use Rattle.wasm_reading.specs.ReadTypes.{blocktype_at}
-use Rattle.wasm_reading.specs.ReadInstr.{immediates_at, append, Open, InBlock, InLoop, InThen, InElse, Going, end_at, else_at, behind_opcode, instrs_at, expr_at}
+use Rattle.wasm_reading.specs.ReadInstr.{immediates_at, Open, behind_opcode, instrs_at}
 use Rattle.wasm_reading.specs.Filling.{NamesNone}
 use Rattle.wasm_reading.proofs.InstrLaws.{immediates_exact}
 use Rattle.wasm_reading.proofs.TypeLaws.{blocktype_exact}

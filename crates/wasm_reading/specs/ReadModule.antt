@@ -1,5 +1,5 @@
 -- Reading modules.
-use Rattle.std.specs.Prelude.{ℕ, ◌+◌, ◌^◌, zero, suc, ◌==◌, nat_lt, if◌then◌else◌, List, [], ◌∷◌, ◌++◌, length, Option, Some, None, is_some, option_and_then}
+use Rattle.std.specs.Prelude.{ℕ, ◌+◌, ◌^◌, zero, suc, ◌==◌, nat_lt, if◌then◌else◌, List, [], ◌∷◌, length, Option, Some, None, is_some, option_and_then}
 use Rattle.std.specs.Option.{option_map}
 use Rattle.wasm_ast.specs.declared.types.FuncType.{FuncType}
 use Rattle.wasm_ast.specs.declared.types.Limits.{Limits}
@@ -17,7 +17,7 @@ use Rattle.wasm_ast.specs.declared.module.Code.{Code}
 use Rattle.wasm_ast.specs.declared.module.Module.{Module}
 use Rattle.wasm_ast.specs.Locals.{added}
 use Rattle.wasm_ast.specs.SpelledModule.{Section, content_of, preamble}
-use Rattle.wasm_reading.specs.Reading.{and_then, mapped, pair_at, next_at, u32_at, each_at, vec_at, bytes_at, name_at, all_of, sized_at}
+use Rattle.wasm_reading.specs.Reading.{and_then, mapped, pair_at, next_at, u32_at, vec_at, bytes_at, name_at, all_of, sized_at}
 use Rattle.wasm_reading.specs.ReadTypes.{valtype_at, functype_at, memory_at, table_at, globaltype_at}
 use Rattle.wasm_reading.specs.ReadInstr.{expr_at}
 

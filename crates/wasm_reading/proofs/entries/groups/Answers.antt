@@ -1,4 +1,4 @@
-use Rattle.std.proofs.Common.{◌≡◌, ◌+◌, ◌<◌, ◌^◌, arith}
+use Rattle.std.proofs.Common.{arith}
 use Rattle.std.proofs.lemmas.Result.{err_from_is_err_and}
 use Rattle.wasm_reading.proofs.ItemLemmas.{handed_on}
 use Rattle.wasm_reading.proofs.GroupLemmas.{groups_more, groups_many, groups_broken, groups_all}

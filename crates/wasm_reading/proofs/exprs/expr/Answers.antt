@@ -1,5 +1,5 @@
-use Rattle.std.proofs.Common.{◌≡◌, ◌∙◌, sym, ap, refl, Bool, true, false, subst, Ok, Some, [], ◌∷◌, ◌++◌}
-use Rattle.wasm_reading.specs.Reads.{IsLast, GoesOn, Stepped}
+use Rattle.std.proofs.Common.{◌∙◌, sym, ap, refl, subst, Ok, Some, [], ◌∷◌, ◌++◌}
+use Rattle.wasm_reading.specs.Reads.{GoesOn, Stepped}
 use Rattle.wasm_reading.proofs.StepLaws.{filled_first, filled_on, filled_last}
 use Rattle.wasm_reading.proofs.exprs.expr.Goals as goal
 

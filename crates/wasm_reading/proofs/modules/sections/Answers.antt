@@ -1,9 +1,9 @@
-use Rattle.std.proofs.Common.{◌≡◌, ◌∙◌, ℕ, List, ◌∷◌, [], ◌++◌, ◌+◌, ◌<◌, ◌≤◌, length, Some, is_some, sym, ap, subst, arith, eqb-true}
+use Rattle.std.proofs.Common.{◌≡◌, ◌∙◌, length, Some, is_some, sym, ap, subst, eqb-true}
 use Rattle.std.proofs.lemmas.List.{map_push}
 use Rattle.wasm_reading.specs.Reading.{name_at}
 use Rattle.wasm_reading.specs.ReadModule.{sections_at}
 use Rattle.wasm_reading.specs.Sections.{view, views}
-use Rattle.wasm_reading.proofs.SectionLemmas.{Split, split_first, split_custom, split_known, split_shorter, split_done}
+use Rattle.wasm_reading.proofs.SectionLemmas.{Split, split_custom, split_known, split_shorter, split_done}
 use Rattle.wasm_reading.proofs.modules.sections.Goals as goal
 use Rattle.wasm_reading.proofs.modules.sections.Goals.{then-id-eq0+in_ok-_name, else-id-eq0+else-id-least+else-id-gt11}
 

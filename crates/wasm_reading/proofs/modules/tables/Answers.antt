@@ -1,7 +1,7 @@
-use Rattle.std.proofs.Common.{◌≡◌, ◌+◌, ◌∷◌, [], ◌++◌, ◌≤◌, Some, arith, sym, ap}
+use Rattle.std.proofs.Common.{arith}
 use Rattle.std.proofs.lemmas.Result.{err_from_is_err_and}
 use Rattle.wasm_reading.specs.ReadTypes.{table_at}
-use Rattle.wasm_reading.proofs.ItemLemmas.{Begun, begun_none, begun_more, begun_none_left, begun_all, handed_on}
+use Rattle.wasm_reading.proofs.ItemLemmas.{begun_none, begun_more, begun_none_left, begun_all, handed_on}
 use Rattle.wasm_reading.proofs.modules.tables.Goals as goal
 
 pub loop-init : goal.loop-init

@@ -1,4 +1,4 @@
-use Rattle.std.proofs.Common.{◌≡◌, ◌∙◌, ap, ◌++◌, ◌∷◌, [], List, length, sym, subst, reverse, refl}
+use Rattle.std.proofs.Common.{◌≡◌, ◌∙◌, ap, ◌++◌, ◌∷◌, [], List, length, reverse}
 use Rattle.std.proofs.Math.ListN.{set}
 use Rattle.wasm_ast.specs.Numbering.{list_at}
 use Rattle.wasm_ast.specs.declared.instr.Instr.{Instr}
