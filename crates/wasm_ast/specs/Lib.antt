@@ -1,0 +1,9 @@
+pub mod Sequence
+pub mod Numbering
+pub mod Locals
+pub mod Types
+pub mod Operators
+pub mod Spelling
+pub mod SpelledTypes
+pub mod SpelledInstr
+pub mod SpelledModule

@@ -1,0 +1,62 @@
+-- The numbered lists of a body, and what they mean.
+use Rattle.std.specs.Prelude.{◌≡◌, ℕ, ◌<◌, ◌==◌, zero, suc, List, [], ◌∷◌, length, count_by, slice_index_or}
+use Rattle.std.specs.List.{flat_map}
+use Rattle.wasm_ast.specs.declared.instr.Instr.{Instr}
+use Rattle.wasm_ast.specs.declared.instr.Instr.TheVariants as instr
+use Rattle.wasm_ast.specs.Sequence.{Sequence, Empty, Plain, Block, Loop, If}
+
+-- the list of that number, empty where there is none
+abbrev pub list_at : List (List Instr) → ℕ → List Instr
+list_at lists n = slice_index_or lists n []
+
+-- the numbers of the lists that an instruction names
+abbrev pub names : Instr → List ℕ
+names (instr.Block of body) = body ∷ []
+names (instr.Loop of body) = body ∷ []
+names (instr.If of then otherwise) = then ∷ otherwise ∷ []
+names i = []
+
+-- how often the instructions of all lists name the list of that number
+abbrev pub times_named : List (List Instr) → ℕ → ℕ
+times_named lists n = count_by (λ m. m == n) (flat_map (λ is. flat_map names is) lists)
+
+-- each number that an instruction names has the property
+abbrev pub InstrNames : (ℕ → Type 0) → Instr → Type 0
+InstrNames P (instr.Block of body) = P body
+InstrNames P (instr.Loop of body) = P body
+InstrNames P (instr.If of then otherwise) = P then × P otherwise
+InstrNames P i = Unit {0}
+
+-- each number that an instruction of the list names has the property
+abbrev pub ListNames : (ℕ → Type 0) → List Instr → Type 0
+ListNames P [] = Unit {0}
+ListNames P (i ∷ is) = InstrNames P i × ListNames P is
+
+-- List 0 is the function's. Each number that an instruction names is that of a list, and greater
+-- than the number of the list in which the instruction stands; each list but 0 is named once.
+pub record IsNumbered (lists : List (List Instr)) : Type 0 where
+  pub first : 0 < length lists
+  pub inner : (n : ℕ) → ListNames (λ m. (n < m) × (m < length lists)) (list_at lists n)
+  pub once : (n : ℕ) → 0 < n → n < length lists → times_named lists n ≡ 1
+
+-- an instruction in front of a sequence, where inner is the sequence of each numbered list
+abbrev pub in_front : (ℕ → Sequence) → Instr → Sequence → Sequence
+in_front inner (instr.Block of body) rest = Block of (inner body) rest
+in_front inner (instr.Loop of body) rest = Loop of (inner body) rest
+in_front inner (instr.If of then otherwise) rest = If of (inner then) (inner otherwise) rest
+in_front inner i rest = Plain i rest
+
+-- the sequence of a list of instructions, where inner is the sequence of each numbered list
+abbrev pub sequence : (ℕ → Sequence) → List Instr → Sequence
+sequence inner [] = Empty
+sequence inner (i ∷ is) = in_front inner i (sequence inner is)
+
+-- The sequence of the list of that number, to a depth of blocks. An inner list has a greater number,
+-- so no more depth is needed than there are lists.
+unfoldable pub within : List (List Instr) → ℕ → ℕ → Sequence
+within lists zero n = Empty
+within lists (suc depth) n = sequence (within lists depth) (list_at lists n)
+
+-- the sequence of the list of that number
+unfoldable pub nested : List (List Instr) → ℕ → Sequence
+nested lists n = within lists (length lists) n

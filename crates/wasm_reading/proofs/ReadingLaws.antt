@@ -1,0 +1,260 @@
+-- Reading the parts of the binary format takes just what is spelled so.
+use Rattle.std.proofs.Common.{◌≡◌, ◌⊎◌, inl, inr, ℕ, zero, suc, ◌==◌, Bool, true, false, cond, List, [], ◌∷◌, ◌++◌, length, take, drop, Option, Some, None, Result, Ok, Err, refl, sym, ◌∙◌, ap, subst, arith, append_assoc, nat_lt, eq-eqb, eqb-true, ltb-false, le-ltb}
+use Rattle.std.proofs.lemmas.List.{take-append-drop, append-nil, length-take-le}
+use Rattle.std.proofs.Common.{length-append}
+use Rattle.std.proofs.Math.Seq.{take-append_seam, drop-append_seam}
+use Rattle.std.specs.Result.{result_ok}
+use Rattle.std.specs.Str.{is_utf8}
+use Rattle.std.proofs.lemmas.Str.{IsUtf8-from_is_utf8, is_utf8-from_IsUtf8}
+use Rattle.byte_cursor.specs.declared.leb.CursorFault.{CursorFault}
+use Rattle.byte_cursor.specs.Integers.{BeginsWith, SpellsSigned, unsigned_last, unsigned_joined, signed_last, signed_joined}
+use Rattle.byte_cursor.specs.Reading.{unsigned_at, signed_at}
+use Rattle.byte_cursor.proofs.Laws.{number_takes, number_again}
+use Rattle.wasm_ast.specs.Spelling.{Joined, Behind, SpellsU32, SpellsEach, SpellsVec, SpellsBytes, SpellsName, Sized}
+use Rattle.wasm_reading.specs.Reading.{and_then, mapped, pair_at, behind_at, u32_at, i32_at, i64_at, each_at, vec_at, span_at, bytes_at, name_at, if_ended, all_of, with_rest, byte_as, sized_at, IsExact}
+
+-- a test that chose
+pub chosen : {A : Type 0} (b : Bool) (x y z : A) → cond b x y ≡ z → ((b ≡ true) × (x ≡ z)) ⊎ ((b ≡ false) × (y ≡ z))
+chosen true x y z e = inl (refl, e)
+chosen false x y z e = inr (refl, e)
+
+pub chose_some : {A : Type 0} (b : Bool) (x : Option A) (z : A) → cond b x None ≡ Some z → (b ≡ true) × (x ≡ Some z)
+chose_some true x z e = (refl, e)
+chose_some false x z e = cc
+
+-- reading that gave something gave something before
+pub read_first : {X Y : Type 0} (o : Option (X × List ℕ)) (f : X → List ℕ → Option Y) (y : Y) → and_then o f ≡ Some y →
+    (x : X) × (mid : List ℕ) × (o ≡ Some (x, mid)) × (f x mid ≡ Some y)
+read_first None f y e = cc
+read_first (Some x) f y e = (x.0, x.1, refl, e)
+
+pub some_is : {A : Type 0} (x y : A) → Some x ≡ Some y → x ≡ y
+some_is x y e = cc
+
+-- what begins so, and then goes on so
+pub begins_joined : {A B : Type 0} (P : List ℕ → A → Type 0) (Q : List ℕ → B → Type 0) (bytes mid rest : List ℕ) (a : A) (b : B) →
+    BeginsWith P bytes a mid → BeginsWith Q mid b rest →
+    (front : List ℕ) × Joined (λ f. P f a) (λ g. Q g b) front × (bytes ≡ front ++ rest)
+begins_joined P Q bytes mid rest a b p q = (
+  p.0 ++ q.0,
+  record { front = p.0; back = q.0; parts = refl; first = p.1; second = q.1 },
+  p.2 ∙ ap (λ m. p.0 ++ m) q.2 ∙ sym (append_assoc p.0 q.0 rest),
+)
+
+-- reading two parts of bytes that are joined of them
+pub joined_again : {X Y : Type 0} (P Q : List ℕ → Type 0) (bytes rest : List ℕ) (r : List ℕ → Option (X × List ℕ)) (k : X → List ℕ → Option Y) (x : X) (y : Y) →
+    Joined P Q bytes → ((front more : List ℕ) → P front → r (front ++ more) ≡ Some (x, more)) →
+    ((back : List ℕ) → Q back → k x (back ++ rest) ≡ Some y) → and_then (r (bytes ++ rest)) k ≡ Some y
+joined_again P Q bytes rest r k x y j first second =
+    ap (λ b. and_then (r (b ++ rest)) k) j.parts
+    ∙ ap (λ b. and_then (r b) k) (append_assoc j.front j.back rest)
+    ∙ ap (λ o. and_then o k) (first j.front (j.back ++ rest) j.first)
+    ∙ second j.back j.second
+
+-- what is read as something else
+pub mapped_exact : {X Y : Type 0} {S : List ℕ → X → Type 0} {r : List ℕ → Option (X × List ℕ)} (T : List ℕ → Y → Type 0) (f : X → Y) →
+    IsExact S r → ((bytes : List ℕ) (x : X) → S bytes x → T bytes (f x)) →
+    ((bytes : List ℕ) (y : Y) → T bytes y → (x : X) × S bytes x × (f x ≡ y)) → IsExact T (mapped f r)
+mapped_exact {X} {Y} {S} {r} T f e to from = record {
+  takes = λ bytes y rest h.
+      let p = read_first (r bytes) (λ x rest. Some (f x, rest)) (y, rest) h in
+      let t = e.takes bytes p.0 p.1 p.2 in
+      let same : f p.0 ≡ y = ap (λ z. z.0) (some_is _ _ p.3) in
+      let ends : p.1 ≡ rest = ap (λ z. z.1) (some_is _ _ p.3) in
+      (t.0, subst (λ z. T t.0 z) same (to t.0 p.0 t.1), t.2 ∙ ap (λ m. t.0 ++ m) ends);
+  again = λ front rest y h.
+      let p = from front y h in
+      ap (λ o. and_then o (λ x rest. Some (f x, rest))) (e.again front rest p.0 p.1) ∙ ap (λ z. Some (z, rest)) p.2;
+}
+
+-- two things, one after the other
+pub pair_exact : {X Y : Type 0} {A : List ℕ → X → Type 0} {B : List ℕ → Y → Type 0} {r : List ℕ → Option (X × List ℕ)} {s : List ℕ → Option (Y × List ℕ)} →
+    IsExact A r → IsExact B s → IsExact (λ bytes p. Joined (λ a. A a p.0) (λ b. B b p.1) bytes) (pair_at r s)
+pair_exact {X} {Y} {A} {B} {r} {s} e f = record {
+  takes = λ bytes p rest h.
+      let u = read_first (r bytes) (λ x mid. and_then (s mid) (λ y rest. Some ((x, y), rest))) (p, rest) h in
+      let v = read_first (s u.1) (λ y rest. Some ((u.0, y), rest)) (p, rest) u.3 in
+      let is : (u.0, v.0) ≡ p = ap (λ z. z.0) (some_is _ _ v.3) in
+      let ends : v.1 ≡ rest = ap (λ z. z.1) (some_is _ _ v.3) in
+      let b = begins_joined A B bytes u.1 v.1 u.0 v.0 (e.takes bytes u.0 u.1 u.2) (f.takes u.1 v.0 v.1 v.2) in
+      (b.0, subst (λ (z : X × Y). Joined (λ a. A a z.0) (λ c. B c z.1) b.0) is b.1, b.2 ∙ ap (λ m. b.0 ++ m) ends);
+  again = λ front rest p h.
+      joined_again (λ a. A a p.0) (λ b. B b p.1) front rest r (λ x mid. and_then (s mid) (λ y rest. Some ((x, y), rest))) p.0 (p, rest) h
+      (λ g more q. e.again g more p.0 q)
+      (λ g q. ap (λ o. and_then o (λ y rest. Some ((p.0, y), rest))) (f.again g rest p.1 q));
+}
+
+-- a byte in front
+pub behind_exact : {X : Type 0} {S : List ℕ → X → Type 0} {r : List ℕ → Option (X × List ℕ)} (b : ℕ) → IsExact S r → IsExact (λ bytes x. Behind b (λ a. S a x) bytes) (behind_at b r)
+behind_exact {X} {S} {r} b e = record { takes = takes; again = again } where
+  takes : (bytes : List ℕ) (x : X) (rest : List ℕ) → behind_at b r bytes ≡ Some (x, rest) → BeginsWith (λ bytes x. Behind b (λ a. S a x) bytes) bytes x rest
+  takes [] x rest h = cc
+  takes (c ∷ bytes) x rest h =
+      let p = chose_some (c == b) (r bytes) (x, rest) h in
+      let t = e.takes bytes x rest p.1 in
+      (c ∷ t.0, (eqb-true c b p.0, t.1), ap (λ m. c ∷ m) t.2)
+
+  again : (front rest : List ℕ) (x : X) → Behind b (λ a. S a x) front → behind_at b r (front ++ rest) ≡ Some (x, rest)
+  again [] rest x h = absurd h
+  again (c ∷ front) rest x h = ap (λ t. cond t (r (front ++ rest)) None) (eq-eqb c b h.0) ∙ e.again front rest x h.1
+
+ok_of : {X : Type 0} (r : Result X CursorFault) (x : X) → result_ok r ≡ Some x → r ≡ Ok x
+ok_of (Ok y) x h = ap (λ z. Ok z) (some_is y x h)
+ok_of (Err e) x h = cc
+
+pub u32_exact : IsExact SpellsU32 u32_at
+unfolding u32_at unsigned_at
+u32_exact = record {
+  takes = λ bytes x rest h. number_takes unsigned_last unsigned_joined 32 bytes x rest (ok_of _ _ h);
+  again = λ front rest x h. ap result_ok (number_again unsigned_last unsigned_joined 32 front x rest h);
+}
+
+pub i32_exact : IsExact (SpellsSigned 32) i32_at
+unfolding i32_at signed_at
+i32_exact = record {
+  takes = λ bytes x rest h. number_takes signed_last signed_joined 32 bytes x rest (ok_of _ _ h);
+  again = λ front rest x h. ap result_ok (number_again signed_last signed_joined 32 front x rest h);
+}
+
+pub i64_exact : IsExact (SpellsSigned 64) i64_at
+unfolding i64_at signed_at
+i64_exact = record {
+  takes = λ bytes x rest h. number_takes signed_last signed_joined 64 bytes x rest (ok_of _ _ h);
+  again = λ front rest x h. ap result_ok (number_again signed_last signed_joined 64 front x rest h);
+}
+
+-- so many items
+module _ {X : Type 0} {S : List ℕ → X → Type 0} {r : List ℕ → Option (X × List ℕ)} (e : IsExact S r) where
+  each_takes : (n : ℕ) (bytes : List ℕ) (xs : List X) (rest : List ℕ) → each_at r n bytes ≡ Some (xs, rest) → BeginsWith (SpellsEach S) bytes xs rest × (length xs ≡ n)
+  each_takes zero bytes xs rest h =
+      let p = some_is _ _ h in
+      subst (λ (z : List X × List ℕ). BeginsWith (SpellsEach S) bytes z.0 z.1 × (length z.0 ≡ 0)) p (([], refl, refl), refl)
+  each_takes (suc n) bytes xs rest h =
+      let u = read_first (r bytes) (λ x mid. and_then (each_at r n mid) (λ xs rest. Some (x ∷ xs, rest))) (xs, rest) h in
+      let v = read_first (each_at r n u.1) (λ ys rest. Some (u.0 ∷ ys, rest)) (xs, rest) u.3 in
+      let b = each_takes n u.1 v.0 v.1 v.2 in
+      let j = begins_joined S (SpellsEach S) bytes u.1 v.1 u.0 v.0 (e.takes bytes u.0 u.1 u.2) b.0 in
+      subst (λ (z : List X × List ℕ). BeginsWith (SpellsEach S) bytes z.0 z.1 × (length z.0 ≡ suc n)) (some_is _ _ v.3) ((j.0, j.1, j.2), ap suc b.1)
+
+  each_again : (front rest : List ℕ) (xs : List X) → SpellsEach S front xs → each_at r (length xs) (front ++ rest) ≡ Some (xs, rest)
+  each_again front rest [] h = ap (λ b. Some ([], b ++ rest)) h
+  each_again front rest (x ∷ xs) h =
+      joined_again (λ a. S a x) (λ b. SpellsEach S b xs) front rest r (λ x mid. and_then (each_at r (length xs) mid) (λ xs rest. Some (x ∷ xs, rest))) x (x ∷ xs, rest) h
+      (λ g more q. e.again g more x q)
+      (λ g q. ap (λ o. and_then o (λ xs rest. Some (x ∷ xs, rest))) (each_again g rest xs q))
+
+  pub vec_exact : IsExact (SpellsVec S) (vec_at r)
+  vec_exact = record {
+    takes = λ bytes xs rest h.
+        let u = read_first (u32_at bytes) (λ n rest. each_at r n rest) (xs, rest) h in
+        let b = each_takes u.0 u.1 xs rest u.3 in
+        let n = subst (λ m. BeginsWith SpellsU32 bytes m u.1) (sym b.1) (u32_exact.takes bytes u.0 u.1 u.2) in
+        begins_joined SpellsU32 (SpellsEach S) bytes u.1 rest (length xs) xs n b.0;
+    again = λ front rest xs h.
+        joined_again (λ a. SpellsU32 a (length xs)) (λ b. SpellsEach S b xs) front rest u32_at (λ n rest. each_at r n rest) (length xs) (xs, rest) h
+        (λ g more q. u32_exact.again g more (length xs) q) (λ g q. each_again g rest xs q);
+  }
+
+span_takes : (n : ℕ) (bytes xs rest : List ℕ) → span_at n bytes ≡ Some (xs, rest) → (length xs ≡ n) × (bytes ≡ xs ++ rest)
+span_takes n bytes xs rest h =
+    elim (chosen (nat_lt (length bytes) n) None (Some (take n bytes, drop n bytes)) (Some (xs, rest)) h) [
+      | inl w ↦ let no : None ≡ Some (xs, rest) = w.1 in cc
+      | inr w ↦
+          subst (λ (z : List ℕ × List ℕ). (length z.0 ≡ n) × (bytes ≡ z.0 ++ z.1)) (some_is _ _ w.1)
+          (length-take-le n bytes (ltb-false (length bytes) n w.0), sym (take-append-drop n bytes))
+    ]
+
+span_again : (xs rest : List ℕ) → span_at (length xs) (xs ++ rest) ≡ Some (xs, rest)
+span_again xs rest =
+    let t : nat_lt (length (xs ++ rest)) (length xs) ≡ false = le-ltb _ _ (omega (arith, length-append xs rest)) in
+    rw (t, take-append_seam xs rest, drop-append_seam xs rest) refl
+
+pub floats_exact : (n : ℕ) → IsExact (λ bytes xs. (length bytes ≡ n) × (bytes ≡ xs)) (span_at n)
+floats_exact n = record {
+  takes = λ bytes xs rest h. let p = span_takes n bytes xs rest h in (xs, (p.0, refl), p.1);
+  again = λ front rest xs h. subst (λ m. span_at m (front ++ rest) ≡ Some (xs, rest)) h.0 (span_again front rest ∙ ap (λ z. Some (z, rest)) h.1);
+}
+
+pub bytes_exact : IsExact SpellsBytes bytes_at
+bytes_exact = record {
+  takes = λ bytes xs rest h.
+      let u = read_first (u32_at bytes) (λ n rest. span_at n rest) (xs, rest) h in
+      let b = span_takes u.0 u.1 xs rest u.3 in
+      let n = subst (λ m. BeginsWith SpellsU32 bytes m u.1) (sym b.0) (u32_exact.takes bytes u.0 u.1 u.2) in
+      begins_joined SpellsU32 (λ b content. b ≡ content) bytes u.1 rest (length xs) xs n (xs, refl, b.1);
+  again = λ front rest xs h.
+      joined_again (λ a. SpellsU32 a (length xs)) (λ b. b ≡ xs) front rest u32_at (λ n rest. span_at n rest) (length xs) (xs, rest) h
+      (λ g more q. u32_exact.again g more (length xs) q)
+      (λ g q. subst (λ b. span_at (length xs) (b ++ rest) ≡ Some (xs, rest)) (sym q) (span_again xs rest));
+}
+
+pub name_exact : IsExact SpellsName name_at
+name_exact = record {
+  takes = λ bytes name rest h.
+      let u = read_first (bytes_at bytes) (λ name rest. cond (is_utf8 name) (Some (name, rest)) None) (name, rest) h in
+      let p = chose_some (is_utf8 u.0) (Some (u.0, u.1)) (name, rest) u.3 in
+      let t = bytes_exact.takes bytes u.0 u.1 u.2 in
+      subst (λ (z : List ℕ × List ℕ). BeginsWith SpellsName bytes z.0 z.1) (some_is _ _ p.1) (t.0, (t.1, IsUtf8-from_is_utf8 u.0 p.0), t.2);
+  again = λ front rest name h.
+      ap (λ o. and_then o (λ name rest. cond (is_utf8 name) (Some (name, rest)) None)) (bytes_exact.again front rest name h.0)
+      ∙ ap (λ b. cond b (Some (name, rest)) None) (is_utf8-from_IsUtf8 name h.1);
+}
+
+ended_takes : {X : Type 0} (left : List ℕ) (x y : X) → if_ended left (Some x) ≡ Some y → (left ≡ []) × (x ≡ y)
+ended_takes [] x y h = (refl, some_is x y h)
+ended_takes (b ∷ left) x y h = cc
+
+pub all_takes : {X : Type 0} (o : Option (X × List ℕ)) (x : X) → all_of o ≡ Some x → o ≡ Some (x, [])
+all_takes None x h = cc
+all_takes (Some p) x h = let e = ended_takes p.1 p.0 x h in ap (λ z. Some (p.0, z)) e.0 ∙ ap (λ z. Some (z, [])) e.1
+
+with_takes : {X : Type 0} (more : List ℕ) (o : Option X) (x : X) (rest : List ℕ) → with_rest more o ≡ Some (x, rest) → (o ≡ Some x) × (more ≡ rest)
+with_takes more None x rest h = cc
+with_takes more (Some y) x rest h = let p = some_is _ _ h in (ap (λ z. Some z.0) p, ap (λ z. z.1) p)
+
+-- all the bytes are spelled so where they are read to their end
+pub all_spelled : {X : Type 0} {S : List ℕ → X → Type 0} {r : List ℕ → Option (X × List ℕ)} → IsExact S r → (bytes : List ℕ) (x : X) → all_of (r bytes) ≡ Some x → S bytes x
+all_spelled {X} {S} {r} e bytes x h =
+    let t = e.takes bytes x [] (all_takes (r bytes) x h) in
+    subst (λ b. S b x) (sym (t.2 ∙ append-nil t.0)) t.1
+
+pub all_again : {X : Type 0} {S : List ℕ → X → Type 0} {r : List ℕ → Option (X × List ℕ)} → IsExact S r → (bytes : List ℕ) (x : X) → S bytes x → all_of (r bytes) ≡ Some x
+all_again {X} {S} {r} e bytes x h = ap (λ b. all_of (r b)) (sym (append-nil bytes)) ∙ ap all_of (e.again bytes [] x h)
+
+pub sized_exact : {X : Type 0} {S : List ℕ → X → Type 0} {r : List ℕ → Option (X × List ℕ)} → IsExact S r → IsExact (λ bytes x. Sized (λ c. S c x) bytes) (sized_at r)
+sized_exact {X} {S} {r} e = record {
+  takes = λ bytes x rest h.
+      let u = read_first (bytes_at bytes) (λ content rest. with_rest rest (all_of (r content))) (x, rest) h in
+      let w = with_takes u.1 (all_of (r u.0)) x rest u.3 in
+      let t = bytes_exact.takes bytes u.0 u.1 u.2 in
+      (t.0, (u.0, t.1, all_spelled e u.0 x w.0), t.2 ∙ ap (λ m. t.0 ++ m) w.1);
+  again = λ front rest x h.
+      ap (λ o. and_then o (λ content rest. with_rest rest (all_of (r content)))) (bytes_exact.again front rest h.0 h.1)
+      ∙ ap (λ o. with_rest rest o) (all_again e h.0 x h.2);
+}
+
+-- a byte that stands for a value
+pub byte_exact : {X : Type 0} (of : ℕ → Option X) (code : X → ℕ) → ((b : ℕ) (x : X) → of b ≡ Some x → b ≡ code x) → ((x : X) → of (code x) ≡ Some x) →
+    IsExact (λ bytes x. bytes ≡ code x ∷ []) (byte_as of)
+byte_exact {X} of code to from = record { takes = takes; again = again } where
+  takes : (bytes : List ℕ) (x : X) (rest : List ℕ) → byte_as of bytes ≡ Some (x, rest) → BeginsWith (λ bytes x. bytes ≡ code x ∷ []) bytes x rest
+  takes [] x rest h = cc
+  takes (b ∷ bytes) x rest h =
+      let p = with_takes bytes (of b) x rest h in
+      (b ∷ [], ap (λ c. c ∷ []) (to b x p.0), ap (λ m. b ∷ m) p.1)
+
+  again : (front rest : List ℕ) (x : X) → front ≡ code x ∷ [] → byte_as of (front ++ rest) ≡ Some (x, rest)
+  again front rest x h = ap (λ b. byte_as of (b ++ rest)) h ∙ ap (λ o. with_rest rest o) (from x)
+
+-- the same in other words
+pub exact_as : {X : Type 0} {S : List ℕ → X → Type 0} {r : List ℕ → Option (X × List ℕ)} (T : List ℕ → X → Type 0) →
+    ((bytes : List ℕ) (x : X) → S bytes x → T bytes x) → ((bytes : List ℕ) (x : X) → T bytes x → S bytes x) → IsExact S r → IsExact T r
+exact_as {X} {S} {r} T to from e = record {
+  takes = λ bytes x rest h. let t = e.takes bytes x rest h in (t.0, to t.0 x t.1, t.2);
+  again = λ front rest x h. e.again front rest x (from front x h);
+}
+
+-- what bytes begin with is one thing, and one front spells it
+pub one_form : {X : Type 0} {S : List ℕ → X → Type 0} {r : List ℕ → Option (X × List ℕ)} → IsExact S r → (a b : List ℕ) (x y : X) → S a x → S b y → a ≡ b → x ≡ y
+one_form {X} {S} {r} e a b x y p q h =
+    some_is x y (sym (all_again e a x p) ∙ ap (λ c. all_of (r c)) h ∙ all_again e b y q)

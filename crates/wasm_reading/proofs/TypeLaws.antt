@@ -1,0 +1,187 @@
+-- Reading types takes just what is spelled so.
+use Rattle.std.proofs.Common.{◌≡◌, inl, inr, ℕ, ◌==◌, Bool, true, false, cond, List, [], ◌∷◌, ◌++◌, Option, Some, None, refl, sym, ◌∙◌, ap, subst, eqb-true}
+use Rattle.std.specs.Option.{option_map}
+use Rattle.byte_cursor.specs.Integers.{BeginsWith}
+use Rattle.wasm_ast.specs.declared.types.ValType.{ValType}
+use Rattle.wasm_ast.specs.declared.types.ValType.TheVariants.{I32, I64, F32, F64}
+use Rattle.wasm_ast.specs.declared.types.Limits.{Limits}
+use Rattle.wasm_ast.specs.Spelling.{Joined, Behind, SpellsU32}
+use Rattle.wasm_ast.specs.SpelledTypes.{valtype_byte, SpellsValType, SpellsBlockType, SpellsFuncType, LimitsForm, SpellsMemory, SpellsTable, SpellsGlobalType}
+use Rattle.wasm_reading.specs.Reading.{and_then, mapped, pair_at, u32_at, IsExact}
+use Rattle.wasm_reading.specs.ReadTypes.{valtype_of, valtype_at, blocktype_of, blocktype_at, functype_at, one_limit, two_limits, memory_at, unshared_at, table_at, flag_of, globaltype_at}
+use Rattle.wasm_reading.proofs.ReadingLaws.{chosen, chose_some, some_is, read_first, mapped_exact, pair_exact, behind_exact, u32_exact, vec_exact, byte_exact, exact_as}
+
+valtype_of_is : (b : ℕ) (x : ValType) → valtype_of b ≡ Some x → b ≡ valtype_byte x
+valtype_of_is b x h =
+    elim (chosen (b == 0x7F) _ _ (Some x) h) [
+      | inl w ↦ eqb-true b 0x7F w.0 ∙ ap valtype_byte (some_is _ _ w.1)
+      | inr w ↦
+          elim (chosen (b == 0x7E) _ _ (Some x) w.1) [
+            | inl v ↦ eqb-true b 0x7E v.0 ∙ ap valtype_byte (some_is _ _ v.1)
+            | inr v ↦
+                elim (chosen (b == 0x7D) _ _ (Some x) v.1) [
+                  | inl u ↦ eqb-true b 0x7D u.0 ∙ ap valtype_byte (some_is _ _ u.1)
+                  | inr u ↦
+                      let t = chose_some (b == 0x7C) (Some F64) x u.1 in eqb-true b 0x7C t.0 ∙ ap valtype_byte (some_is _ _ t.1)
+                ]
+          ]
+    ]
+
+of_valtype : (x : ValType) → valtype_of (valtype_byte x) ≡ Some x
+of_valtype I32 = refl
+of_valtype I64 = refl
+of_valtype F32 = refl
+of_valtype F64 = refl
+
+pub valtype_exact : IsExact SpellsValType valtype_at
+valtype_exact = byte_exact valtype_of valtype_byte valtype_of_is of_valtype
+
+abbrev blocktype_byte : Option ValType → ℕ
+blocktype_byte None = 0x40
+blocktype_byte (Some of) = valtype_byte of
+
+blocktype_is : (b : ℕ) (o : Option ValType) (x : Option ValType) → valtype_of b ≡ o → option_map (λ of. Some of) o ≡ Some x → b ≡ blocktype_byte x
+blocktype_is b None x e h = cc
+blocktype_is b (Some of) x e h = valtype_of_is b of e ∙ ap blocktype_byte (some_is _ _ h)
+
+blocktype_of_is : (b : ℕ) (x : Option ValType) → blocktype_of b ≡ Some x → b ≡ blocktype_byte x
+blocktype_of_is b x h =
+    elim (chosen (b == 0x40) _ _ (Some x) h) [ inl w ↦ eqb-true b 0x40 w.0 ∙ ap blocktype_byte (some_is _ _ w.1) | inr w ↦ blocktype_is b (valtype_of b) x refl w.1 ]
+
+of_blocktype : (x : Option ValType) → blocktype_of (blocktype_byte x) ≡ Some x
+of_blocktype None = refl
+of_blocktype (Some I32) = refl
+of_blocktype (Some I64) = refl
+of_blocktype (Some F32) = refl
+of_blocktype (Some F64) = refl
+
+to_blocktype : (bytes : List ℕ) (x : Option ValType) → bytes ≡ blocktype_byte x ∷ [] → SpellsBlockType bytes x
+to_blocktype bytes None h = h
+to_blocktype bytes (Some of) h = h
+
+from_blocktype : (bytes : List ℕ) (x : Option ValType) → SpellsBlockType bytes x → bytes ≡ blocktype_byte x ∷ []
+from_blocktype bytes None h = h
+from_blocktype bytes (Some of) h = h
+
+pub blocktype_exact : IsExact SpellsBlockType blocktype_at
+blocktype_exact = exact_as SpellsBlockType to_blocktype from_blocktype (byte_exact blocktype_of blocktype_byte blocktype_of_is of_blocktype)
+
+pub functype_exact : IsExact SpellsFuncType functype_at
+functype_exact = mapped_exact SpellsFuncType (λ f. record { params = f.0; results = f.1 }) (behind_exact 0x60 (pair_exact (vec_exact valtype_exact) (vec_exact valtype_exact)))
+    (λ bytes x s. s) (λ bytes f s. ((f.params, f.results), s, refl))
+
+-- limits behind their flag
+abbrev Two : List ℕ → ℕ × ℕ → Type 0
+Two bytes l = Joined (λ a. SpellsU32 a l.0) (λ b. SpellsU32 b l.1) bytes
+
+two_exact : IsExact Two (pair_at u32_at u32_at)
+two_exact = pair_exact u32_exact u32_exact
+
+one_takes : (b : ℕ) (bytes : List ℕ) (l : Limits) (rest : List ℕ) → b ≡ 0x00 → mapped one_limit u32_at bytes ≡ Some (l, rest) → BeginsWith SpellsMemory (b ∷ bytes) l rest × (l.shared ≡ false)
+one_takes b bytes l rest e h =
+    let u = read_first (u32_at bytes) (λ n rest. Some (one_limit n, rest)) (l, rest) h in
+    let t = u32_exact.takes bytes u.0 u.1 u.2 in
+    subst (λ (z : Limits × List ℕ). BeginsWith SpellsMemory (b ∷ bytes) z.0 z.1 × (z.0.shared ≡ false)) (some_is _ _ u.3) ((b ∷ t.0, (e, t.1), ap (λ m. b ∷ m) t.2), refl)
+
+two_takes : (shared : Bool) (b : ℕ) (bytes : List ℕ) (l : Limits) (rest : List ℕ) → b ≡ cond shared 0x03 0x01 → mapped (two_limits shared) (pair_at u32_at u32_at) bytes ≡ Some (l, rest) →
+    BeginsWith SpellsMemory (b ∷ bytes) l rest × (l.shared ≡ shared)
+two_takes true b bytes l rest e h =
+    let u = read_first (pair_at u32_at u32_at bytes) (λ p rest. Some (two_limits true p, rest)) (l, rest) h in
+    let t = two_exact.takes bytes u.0 u.1 u.2 in
+    subst (λ (z : Limits × List ℕ). BeginsWith SpellsMemory (b ∷ bytes) z.0 z.1 × (z.0.shared ≡ true)) (some_is _ _ u.3) ((b ∷ t.0, (e, t.1), ap (λ m. b ∷ m) t.2), refl)
+two_takes false b bytes l rest e h =
+    let u = read_first (pair_at u32_at u32_at bytes) (λ p rest. Some (two_limits false p, rest)) (l, rest) h in
+    let t = two_exact.takes bytes u.0 u.1 u.2 in
+    subst (λ (z : Limits × List ℕ). BeginsWith SpellsMemory (b ∷ bytes) z.0 z.1 × (z.0.shared ≡ false)) (some_is _ _ u.3) ((b ∷ t.0, (e, t.1), ap (λ m. b ∷ m) t.2), refl)
+
+memory_takes : (bytes : List ℕ) (l : Limits) (rest : List ℕ) → memory_at bytes ≡ Some (l, rest) → BeginsWith SpellsMemory bytes l rest
+memory_takes [] l rest h = cc
+memory_takes (b ∷ bytes) l rest h =
+    elim (chosen (b == 0x00) _ _ (Some (l, rest)) h) [
+      | inl w ↦ (one_takes b bytes l rest (eqb-true b 0x00 w.0) w.1).0
+      | inr w ↦
+          elim (chosen (b == 0x01) _ _ (Some (l, rest)) w.1) [
+            | inl v ↦ (two_takes false b bytes l rest (eqb-true b 0x01 v.0) v.1).0
+            | inr v ↦
+                let t = chose_some (b == 0x03) (mapped (two_limits true) (pair_at u32_at u32_at) bytes) (l, rest) v.1 in (two_takes true b bytes l rest (eqb-true b 0x03 t.0) t.1).0
+          ]
+    ]
+
+limits_again : (min : ℕ) (max : Option ℕ) (shared : Bool) (front rest : List ℕ) → LimitsForm min max shared front → memory_at (front ++ rest) ≡ Some (record { min = min; max = max; shared = shared }, rest)
+limits_again min None true front rest h = absurd h
+limits_again min None false [] rest h = absurd h
+limits_again min None false (b ∷ front) rest h =
+    subst (λ c. memory_at (c ∷ front ++ rest) ≡ Some (one_limit min, rest)) (sym h.0) (ap (λ o. and_then o (λ n rest. Some (one_limit n, rest))) (u32_exact.again front rest min h.1))
+limits_again min (Some max) false [] rest h = absurd h
+limits_again min (Some max) false (b ∷ front) rest h =
+    subst (λ c. memory_at (c ∷ front ++ rest) ≡ Some (two_limits false (min, max), rest)) (sym h.0) (ap (λ o. and_then o (λ p rest. Some (two_limits false p, rest))) (two_exact.again front rest (min, max) h.1))
+limits_again min (Some max) true [] rest h = absurd h
+limits_again min (Some max) true (b ∷ front) rest h =
+    subst (λ c. memory_at (c ∷ front ++ rest) ≡ Some (two_limits true (min, max), rest)) (sym h.0) (ap (λ o. and_then o (λ p rest. Some (two_limits true p, rest))) (two_exact.again front rest (min, max) h.1))
+
+pub memory_exact : IsExact SpellsMemory memory_at
+memory_exact = record { takes = memory_takes; again = λ front rest l h. limits_again l.min l.max l.shared front rest h }
+
+-- limits that aren't shared
+abbrev Unshared : List ℕ → Limits → Type 0
+Unshared bytes l = (l.shared ≡ false) × LimitsForm l.min l.max false bytes
+
+unshared_form : (l : Limits) (shared : Bool) (bytes : List ℕ) → l.shared ≡ shared → shared ≡ false → LimitsForm l.min l.max l.shared bytes → LimitsForm l.min l.max false bytes
+unshared_form l shared bytes e f h = subst (λ s. LimitsForm l.min l.max s bytes) (e ∙ f) h
+
+unshared_takes : (bytes : List ℕ) (l : Limits) (rest : List ℕ) → unshared_at bytes ≡ Some (l, rest) → BeginsWith Unshared bytes l rest
+unshared_takes [] l rest h = cc
+unshared_takes (b ∷ bytes) l rest h =
+    elim (chosen (b == 0x00) _ _ (Some (l, rest)) h) [
+      | inl w ↦ weaker (one_takes b bytes l rest (eqb-true b 0x00 w.0) w.1)
+      | inr w ↦
+          let t = chose_some (b == 0x01) (mapped (two_limits false) (pair_at u32_at u32_at) bytes) (l, rest) w.1 in weaker (two_takes false b bytes l rest (eqb-true b 0x01 t.0) t.1)
+    ] where
+      weaker : BeginsWith SpellsMemory (b ∷ bytes) l rest × (l.shared ≡ false) → BeginsWith Unshared (b ∷ bytes) l rest
+      weaker p = (p.0.0, (p.1, unshared_form l false p.0.0 p.1 refl p.0.1), p.0.2)
+
+unshared_again : (min : ℕ) (max : Option ℕ) (front rest : List ℕ) → LimitsForm min max false front → unshared_at (front ++ rest) ≡ Some (record { min = min; max = max; shared = false }, rest)
+unshared_again min None [] rest h = absurd h
+unshared_again min None (b ∷ front) rest h =
+    subst (λ c. unshared_at (c ∷ front ++ rest) ≡ Some (one_limit min, rest)) (sym h.0) (ap (λ o. and_then o (λ n rest. Some (one_limit n, rest))) (u32_exact.again front rest min h.1))
+unshared_again min (Some max) [] rest h = absurd h
+unshared_again min (Some max) (b ∷ front) rest h =
+    subst (λ c. unshared_at (c ∷ front ++ rest) ≡ Some (two_limits false (min, max), rest)) (sym h.0) (ap (λ o. and_then o (λ p rest. Some (two_limits false p, rest))) (two_exact.again front rest (min, max) h.1))
+
+unshared_exact : IsExact Unshared unshared_at
+unshared_exact = record {
+  takes = unshared_takes;
+  again = λ front rest l h. unshared_again l.min l.max front rest h.1 ∙ ap (λ s. Some (record { min = l.min; max = l.max; shared = s }, rest)) (sym h.0);
+}
+
+to_table : (bytes : List ℕ) (l : Limits) → Behind 0x70 (λ a. Unshared a l) bytes → SpellsTable bytes l
+to_table [] l h = absurd h
+to_table (b ∷ bytes) l h = (h.1.0, (h.0, h.1.1))
+
+from_table : (bytes : List ℕ) (l : Limits) → SpellsTable bytes l → Behind 0x70 (λ a. Unshared a l) bytes
+from_table [] l h = absurd h.1
+from_table (b ∷ bytes) l h = (h.1.0, (h.0, h.1.1))
+
+pub table_exact : IsExact SpellsTable table_at
+table_exact = exact_as SpellsTable to_table from_table (behind_exact 0x70 unshared_exact)
+
+flag_of_is : (b : ℕ) (x : Bool) → flag_of b ≡ Some x → b ≡ cond x 0x01 0x00
+flag_of_is b x h =
+    elim (chosen (b == 0x00) _ _ (Some x) h) [
+      | inl w ↦ eqb-true b 0x00 w.0 ∙ ap (λ y. cond y 0x01 0x00) (some_is _ _ w.1)
+      | inr w ↦
+          let t = chose_some (b == 0x01) (Some true) x w.1 in eqb-true b 0x01 t.0 ∙ ap (λ y. cond y 0x01 0x00) (some_is _ _ t.1)
+    ]
+
+of_flag : (x : Bool) → flag_of (cond x 0x01 0x00) ≡ Some x
+of_flag true = refl
+of_flag false = refl
+
+abbrev pub GlobalType : List ℕ → ValType × Bool → Type 0
+GlobalType bytes g = SpellsGlobalType bytes g.0 g.1
+
+pub globaltype_exact : IsExact GlobalType globaltype_at
+globaltype_exact = exact_as GlobalType
+    (λ bytes g j. j.parts ∙ ap (λ a. a ++ j.back) j.first ∙ ap (λ b. valtype_byte g.0 ∷ b) j.second)
+    (λ bytes g h. record { front = valtype_byte g.0 ∷ []; back = cond g.1 0x01 0x00 ∷ []; parts = h; first = refl; second = refl })
+    (pair_exact valtype_exact (byte_exact flag_of (λ x. cond x 0x01 0x00) flag_of_is of_flag))

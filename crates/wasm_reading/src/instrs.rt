@@ -1,0 +1,155 @@
+// Instructions without inner instructions: WebAssembly Core 1.0, section 5.4, and the threads proposal.
+ghost use Rattle.std.specs.Prelude.{◌≡◌};
+ghost use Rattle.wasm_ast.specs.SpelledInstr.{opcode_at, atomic_at};
+ghost use Rattle.wasm_reading.specs.Given.{Gives};
+ghost use Rattle.wasm_reading.specs.ReadInstr.{memarg_at, zero_at, atomic_instr_at, immediates_at};
+ghost use Rattle.wasm_reading.specs.Reading.{mapped, span_at};
+
+use crate::fault::ReadFault;
+use crate::parts::{next, number, signed_32, signed_64, span, vector};
+use byte_cursor::Cursor;
+use std::alloc::Global;
+use wasm_ast::{ATOMIC_OPCODES, AtomicOpcode, Instr, MemArg, OPCODES, Opcode, Targets};
+
+/// What a byte begins.
+pub(crate) fn opcode(byte: u8) -> Opcode
+    ensures { result ≡ opcode_at byte }
+{
+    OPCODES[byte as usize]
+}
+
+/// What the byte behind FE begins.
+fn atomic_opcode(byte: u8) -> AtomicOpcode
+    ensures { result ≡ atomic_at byte }
+{
+    if (byte as usize) < ATOMIC_OPCODES.len() {
+        ATOMIC_OPCODES[byte as usize]
+    } else {
+        AtomicOpcode::Illegal
+    }
+}
+
+/// A memory argument (5.4.4).
+fn memarg(cursor: &mut Cursor<'_>) -> Result<MemArg, ReadFault>
+    ensures { Gives (λ x. x) result cursor.new (memarg_at cursor.old) }
+{
+    let align = number(cursor)?;
+    let offset = number(cursor)?;
+    Ok(MemArg { align, offset })
+}
+
+/// A byte 0, which stands for that instruction.
+fn with_zero(cursor: &mut Cursor<'_>, instr: Instr) -> Result<Instr, ReadFault>
+    ensures { Gives (λ x. x) result cursor.new (zero_at instr cursor.old) }
+{
+    let byte = next(cursor)?;
+    if byte != 0x00 {
+        return Err(ReadFault::Malformed);
+    }
+    Ok(instr)
+}
+
+/// The labels of a `br_table`.
+fn br_table(alloc: Global, cursor: &mut Cursor<'_>) -> Result<Instr, ReadFault>
+    ensures { Gives (λ x. x) result cursor.new (immediates_at Opcode.BrTable cursor.old) }
+{
+    let labels = vector(alloc, cursor)?;
+    let default = number(cursor)?;
+    let targets = Targets::new(alloc, labels.into_vec(), default)?;
+    Ok(Instr::BrTable(targets))
+}
+
+/// The type of a `call_indirect`, and a byte 0.
+fn call_indirect(cursor: &mut Cursor<'_>) -> Result<Instr, ReadFault>
+    ensures { Gives (λ x. x) result cursor.new (immediates_at Opcode.CallIndirect cursor.old) }
+{
+    let of = number(cursor)?;
+    let byte = next(cursor)?;
+    if byte != 0x00 {
+        return Err(ReadFault::Malformed);
+    }
+    Ok(Instr::CallIndirect(of))
+}
+
+/// The bytes of a floating-point number.
+fn float_const(cursor: &mut Cursor<'_>, n: u32) -> Result<Instr, ReadFault>
+    ensures { Gives (λ x. x) result cursor.new (mapped (λ _. Instr.Float) (span_at n) cursor.old) }
+{
+    let _number = span(cursor, n)?;
+    Ok(Instr::Float)
+}
+
+/// What stands behind FE.
+fn atomic(cursor: &mut Cursor<'_>) -> Result<Instr, ReadFault>
+    ensures { Gives (λ x. x) result cursor.new (atomic_instr_at cursor.old) }
+{
+    let byte = next(cursor)?;
+    match atomic_opcode(byte) {
+        AtomicOpcode::Illegal => Err(ReadFault::Malformed),
+        AtomicOpcode::Fence => with_zero(cursor, Instr::Fence),
+        AtomicOpcode::Access(of) => {
+            let arg = memarg(cursor)?;
+            Ok(Instr::Access(of, arg))
+        }
+    }
+}
+
+/// What stands behind an opcode.
+pub(crate) fn immediates(
+    alloc: Global,
+    opcode: Opcode,
+    cursor: &mut Cursor<'_>,
+) -> Result<Instr, ReadFault>
+    ensures { Gives (λ x. x) result cursor.new (immediates_at opcode cursor.old) }
+{
+    match opcode {
+        Opcode::Illegal | Opcode::Block | Opcode::Loop | Opcode::If | Opcode::Else | Opcode::End =>
+            Err(ReadFault::Malformed),
+        Opcode::Unreachable => Ok(Instr::Unreachable),
+        Opcode::Nop => Ok(Instr::Nop),
+        Opcode::Br => {
+            let label = number(cursor)?;
+            Ok(Instr::Br(label))
+        }
+        Opcode::BrIf => {
+            let label = number(cursor)?;
+            Ok(Instr::BrIf(label))
+        }
+        Opcode::BrTable => br_table(alloc, cursor),
+        Opcode::Return => Ok(Instr::Return),
+        Opcode::Call => {
+            let function = number(cursor)?;
+            Ok(Instr::Call(function))
+        }
+        Opcode::CallIndirect => call_indirect(cursor),
+        Opcode::Drop => Ok(Instr::Drop),
+        Opcode::Select => Ok(Instr::Select),
+        Opcode::Variable(of) => {
+            let index = number(cursor)?;
+            Ok(Instr::Variable(of, index))
+        }
+        Opcode::Access(of) => {
+            let arg = memarg(cursor)?;
+            Ok(Instr::Access(of, arg))
+        }
+        Opcode::MemorySize => with_zero(cursor, Instr::MemorySize),
+        Opcode::MemoryGrow => with_zero(cursor, Instr::MemoryGrow),
+        Opcode::I32Const => {
+            let value = signed_32(cursor)?;
+            Ok(Instr::I32Const(value))
+        }
+        Opcode::I64Const => {
+            let value = signed_64(cursor)?;
+            Ok(Instr::I64Const(value))
+        }
+        Opcode::Numeric(of) => Ok(Instr::Numeric(of)),
+        Opcode::F32Const => float_const(cursor, 4),
+        Opcode::F64Const => float_const(cursor, 8),
+        Opcode::FloatAccess => {
+            let _arg = memarg(cursor)?;
+            Ok(Instr::Float)
+        }
+        Opcode::Float => Ok(Instr::Float),
+        Opcode::Atomic => atomic(cursor),
+    }
+}

@@ -1,0 +1,184 @@
+// Types: WebAssembly Core 1.0, section 5.3.
+ghost use Rattle.std.specs.Prelude.{◌≡◌, Option};
+ghost use Rattle.wasm_reading.specs.Given.{Gives};
+ghost use Rattle.wasm_reading.specs.Reading.{u32_at};
+ghost use Rattle.wasm_reading.specs.ReadTypes.{valtype_of, valtype_at, blocktype_of, blocktype_at, functype_at, memory_at, unshared_at, table_at, flag_of, flag_at, globaltype_at};
+
+use crate::fault::ReadFault;
+use crate::parts::{Read, next, number, vector};
+use byte_cursor::Cursor;
+use std::alloc::Global;
+use wasm_ast::{FuncType, Limits, ValType};
+
+impl Read for u32 {
+    ghost read_at = { u32_at };
+
+    fn read(_alloc: Global, cursor: &mut Cursor<'_>) -> Result<u32, ReadFault> {
+        number(cursor)
+    }
+}
+
+/// The value type of a byte.
+fn valtype_of(byte: u8) -> Option<ValType>
+    ensures { result ≡ valtype_of byte }
+{
+    match byte {
+        0x7F => Some(ValType::I32),
+        0x7E => Some(ValType::I64),
+        0x7D => Some(ValType::F32),
+        0x7C => Some(ValType::F64),
+        _ => None,
+    }
+}
+
+/// A value type (5.3.1).
+pub(crate) fn valtype(cursor: &mut Cursor<'_>) -> Result<ValType, ReadFault>
+    ensures { Gives (λ x. x) result cursor.new (valtype_at cursor.old) }
+{
+    let byte = next(cursor)?;
+    match valtype_of(byte) {
+        Some(of) => Ok(of),
+        None => Err(ReadFault::Malformed),
+    }
+}
+
+impl Read for ValType {
+    ghost read_at = { valtype_at };
+
+    fn read(_alloc: Global, cursor: &mut Cursor<'_>) -> Result<ValType, ReadFault> {
+        valtype(cursor)
+    }
+}
+
+/// The block type of a byte.
+fn blocktype_of(byte: u8) -> Option<Option<ValType>>
+    ensures { result ≡ blocktype_of byte }
+{
+    if byte == 0x40 {
+        return Some(None);
+    }
+    match valtype_of(byte) {
+        Some(of) => Some(Some(of)),
+        None => None,
+    }
+}
+
+/// A block type (5.3.2).
+pub(crate) fn blocktype(cursor: &mut Cursor<'_>) -> Result<Option<ValType>, ReadFault>
+    ensures { Gives (λ x. x) result cursor.new (blocktype_at cursor.old) }
+{
+    let byte = next(cursor)?;
+    match blocktype_of(byte) {
+        Some(of) => Ok(of),
+        None => Err(ReadFault::Malformed),
+    }
+}
+
+impl Read for FuncType {
+    ghost read_at = { functype_at };
+
+    fn read(alloc: Global, cursor: &mut Cursor<'_>) -> Result<FuncType, ReadFault> {
+        let byte = next(cursor)?;
+        if byte != 0x60 {
+            return Err(ReadFault::Malformed);
+        }
+        let params = vector(alloc, cursor)?;
+        let results = vector(alloc, cursor)?;
+        Ok(FuncType { params, results })
+    }
+}
+
+/// The limits of a memory (5.3.5).
+pub(crate) fn memory(cursor: &mut Cursor<'_>) -> Result<Limits, ReadFault>
+    ensures { Gives (λ x. x) result cursor.new (memory_at cursor.old) }
+{
+    let flag = next(cursor)?;
+    match flag {
+        0x00 => {
+            let min = number(cursor)?;
+            Ok(Limits {
+                min,
+                max: None,
+                shared: false,
+            })
+        }
+        0x01 => {
+            let min = number(cursor)?;
+            let max = number(cursor)?;
+            Ok(Limits {
+                min,
+                max: Some(max),
+                shared: false,
+            })
+        }
+        0x03 => {
+            let min = number(cursor)?;
+            let max = number(cursor)?;
+            Ok(Limits {
+                min,
+                max: Some(max),
+                shared: true,
+            })
+        }
+        _ => Err(ReadFault::Malformed),
+    }
+}
+
+/// The limits of a table (5.3.6), behind its element type.
+fn unshared(cursor: &mut Cursor<'_>) -> Result<Limits, ReadFault>
+    ensures { Gives (λ x. x) result cursor.new (unshared_at cursor.old) }
+{
+    let flag = next(cursor)?;
+    match flag {
+        0x00 => {
+            let min = number(cursor)?;
+            Ok(Limits {
+                min,
+                max: None,
+                shared: false,
+            })
+        }
+        0x01 => {
+            let min = number(cursor)?;
+            let max = number(cursor)?;
+            Ok(Limits {
+                min,
+                max: Some(max),
+                shared: false,
+            })
+        }
+        _ => Err(ReadFault::Malformed),
+    }
+}
+
+/// A table's element type and limits (5.3.6).
+pub(crate) fn table(cursor: &mut Cursor<'_>) -> Result<Limits, ReadFault>
+    ensures { Gives (λ x. x) result cursor.new (table_at cursor.old) }
+{
+    let byte = next(cursor)?;
+    if byte != 0x70 {
+        return Err(ReadFault::Malformed);
+    }
+    unshared(cursor)
+}
+
+/// Whether a global can be set (`mut`, 5.3.7).
+fn flag(cursor: &mut Cursor<'_>) -> Result<bool, ReadFault>
+    ensures { Gives (λ x. x) result cursor.new (flag_at cursor.old) }
+{
+    let byte = next(cursor)?;
+    match byte {
+        0x00 => Ok(false),
+        0x01 => Ok(true),
+        _ => Err(ReadFault::Malformed),
+    }
+}
+
+/// The type of a global (5.3.7), and whether it can be set.
+pub(crate) fn globaltype(cursor: &mut Cursor<'_>) -> Result<(ValType, bool), ReadFault>
+    ensures { Gives (λ x. x) result cursor.new (globaltype_at cursor.old) }
+{
+    let of = valtype(cursor)?;
+    let mutable = flag(cursor)?;
+    Ok((of, mutable))
+}
