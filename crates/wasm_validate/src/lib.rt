@@ -1,0 +1,4 @@
+//! Which modules are typed: WebAssembly Core 1.0, chapter 3, and the threads proposal.
+#![tactic(auto)]
+
+mod blocks;
