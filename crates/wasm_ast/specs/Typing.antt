@@ -1,6 +1,6 @@
 -- The typing of instructions: WebAssembly Core 1.0, section 3.3, and the threads proposal, in the
 -- manner of the algorithm in the appendix, section 7.3.
-use Rattle.std.specs.Prelude.{ℕ, ◌+◌, ◌-◌, ◌<◌, ◌≤◌, nat_lt, nat_le, ◌==◌, Bool, true, false, ◌&&◌, if◌then◌else◌, List, [], ◌∷◌, slice_get, Option, Some, None, option_and_then, option_to_list}
+use Rattle.std.specs.Prelude.{ℕ, zero, suc, ◌+◌, ◌-◌, ◌<◌, ◌≤◌, nat_lt, nat_le, ◌==◌, Bool, true, false, ◌&&◌, if◌then◌else◌, List, [], ◌∷◌, slice_get, Option, Some, None, option_and_then, option_to_list}
 use Rattle.std.specs.List.{list_all}
 use Rattle.wasm_ast.specs.declared.types.ValType.{ValType}
 use Rattle.wasm_ast.specs.declared.types.ValType.TheVariants.{I32, I64}
@@ -121,7 +121,8 @@ group_type (g ∷ gs) n = if nat_lt n g.count then Some g.of else group_type gs 
 
 abbrev pub local_type : List ValType → List LocalGroup → ℕ → Option ValType
 local_type [] groups n = group_type groups n
-local_type (t ∷ ts) groups n = if n == 0 then Some t else local_type ts groups (n - 1)
+local_type (t ∷ ts) groups zero = Some t
+local_type (t ∷ ts) groups (suc n) = local_type ts groups n
 
 -- the type of the function of that index
 abbrev pub function_type : Context → ℕ → Option FuncType

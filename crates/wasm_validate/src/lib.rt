@@ -2,3 +2,5 @@
 #![tactic(auto)]
 
 mod blocks;
+mod context;
+mod instruction;
