@@ -11,5 +11,5 @@ context c = record {
   globals = c.globals.now;
   params = c.params.now;
   locals = c.locals.now;
-  result = c.result
+  result = c.result;
 }

@@ -1,3 +1,4 @@
 pub mod Blocks
 pub mod View
 pub mod Context
+pub mod Left

@@ -51,7 +51,12 @@ impl Context<'_> {
     }
 
     /// What a variable instruction leaves (3.3.3).
-    pub fn after_variable(&self, blocks: &mut Blocks, op: VariableOp, index: u32) -> Result<bool, AllocError>
+    pub fn after_variable(
+        &self,
+        blocks: &mut Blocks,
+        op: VariableOp,
+        index: u32,
+    ) -> Result<bool, AllocError>
         ensures operands { IfOk result (λ fits. ended fits blocks.new.operands ≡ after_variable (context self.now) op index blocks.old.operands) }
         ensures enclosing { blocks.new.enclosing ≡ blocks.old.enclosing }
     {
@@ -183,5 +188,9 @@ pub fn select(blocks: &mut Blocks) -> Result<bool, AllocError>
 pub fn may_align(op: Access, align: u32) -> bool
     ensures { result ≡ is_aligned op align }
 {
-    if op.is_atomic() { align == op.exponent() } else { align <= op.exponent() }
+    if op.is_atomic() {
+        align == op.exponent()
+    } else {
+        align <= op.exponent()
+    }
 }

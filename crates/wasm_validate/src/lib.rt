@@ -2,5 +2,6 @@
 #![tactic(auto)]
 
 mod blocks;
+mod body;
 mod context;
 mod instruction;
