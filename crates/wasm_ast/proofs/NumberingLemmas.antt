@@ -41,7 +41,7 @@ module _ (lists : List (List Instr)) (inner : (n : ℕ) → ListNames (λ m. (n 
   within-deep (suc d) (suc e) n h k =
       sequence-agree (within lists d) (within lists e) (list_at lists n)
       (list_names (λ m. (n < m) × (m < length lists)) (λ m. within lists d m ≡ within lists e m) (list_at lists n)
-        (λ m p. within-deep d e m (omega (arith, p.0)) (omega (arith, p.0))) (inner n))
+      (λ m p. within-deep d e m (omega (arith, p.0)) (omega (arith, p.0))) (inner n))
 
   pub nested-step : (n : ℕ) → nested lists n ≡ sequence (nested lists) (list_at lists n)
   unfolding nested within

@@ -88,8 +88,8 @@ SpellsSequence bytes (Loop of body rest) =
     Opens op.Loop (Joined (λ a. SpellsBlockType a of) (Joined (λ b. SpellsSequence b body) (Opens op.End (λ c. SpellsSequence c rest)))) bytes
 SpellsSequence bytes (If of then otherwise rest) =
     Opens op.If (Joined (λ a. SpellsBlockType a of) (λ x.
-      (Joined (λ b. SpellsSequence b then) (Opens op.End (λ c. SpellsSequence c rest)) x × (otherwise ≡ Empty))
-      ⊎ Joined (λ b. SpellsSequence b then) (Opens op.Else (Joined (λ c. SpellsSequence c otherwise) (Opens op.End (λ d. SpellsSequence d rest)))) x)) bytes
+    (Joined (λ b. SpellsSequence b then) (Opens op.End (λ c. SpellsSequence c rest)) x × (otherwise ≡ Empty))
+    ⊎ Joined (λ b. SpellsSequence b then) (Opens op.Else (Joined (λ c. SpellsSequence c otherwise) (Opens op.End (λ d. SpellsSequence d rest)))) x)) bytes
 
 -- expr (5.4.6)
 abbrev pub SpellsExpr : List ℕ → Sequence → Type 0

@@ -66,7 +66,7 @@ context_of m = record {
   globals = globals_of m.imports ++ map (λ (g : GlobalVar). (g.of, g.mutable)) m.globals;
   params = [];
   locals = [];
-  result = None
+  result = None;
 }
 
 -- 3.2.3: at most one result
@@ -118,12 +118,12 @@ abbrev pub is_constant : Context → List (ValType × Bool) → ValType → Sequ
 is_constant c globals of s =
     are_constant globals s
     && is_body
-       (record { types = c.types; functions = c.functions; tables = c.tables; memories = c.memories; globals = globals; params = []; locals = []; result = Some of })
-       s
+    (record { types = c.types; functions = c.functions; tables = c.tables; memories = c.memories; globals = globals; params = []; locals = []; result = Some of })
+    s
 
 -- 3.4.4: the first value may name imported globals
-abbrev pub is_global : Module → GlobalVar → Bool
-is_global m g = is_constant (context_of m) (globals_of m.imports) g.of g.init
+abbrev pub is_global : Context → List (ValType × Bool) → GlobalVar → Bool
+is_global c imports g = is_constant c imports g.of g.init
 
 -- 3.4.8
 abbrev pub is_export : Context → ExportKind → Bool
@@ -135,7 +135,7 @@ is_export c (exported.Global x) = nat_lt x (length c.globals)
 -- no name stands there twice
 abbrev pub are_different : List Export → Bool
 are_different [] = true
-are_different (e ∷ es) = not (list_any (λ (d : Export). bytes_eq e.name d.name) es) && are_different es
+are_different (e ∷ es) = not (list_any (λ (d : Export). bytes_eq d.name e.name) es) && are_different es
 
 -- 3.4.7: a function that takes and gives nothing
 abbrev pub takes_and_gives_nothing : FuncType → Bool
@@ -167,7 +167,7 @@ in_function c code f = record {
   globals = c.globals;
   params = f.params;
   locals = code.locals;
-  result = slice_get f.results 0
+  result = slice_get f.results 0;
 }
 
 -- 3.4.1: a function of the type of that index
@@ -181,19 +181,27 @@ are_functions c [] (code ∷ codes) = false
 are_functions c (of ∷ ofs) [] = false
 are_functions c (of ∷ ofs) (code ∷ codes) = is_function_of c code (slice_get c.types of) && are_functions c ofs codes
 
--- Each rule of a module (3.4.10). Of tables and memories there is at most one.
-abbrev pub is_typed : Module → Bool
-is_typed m =
+-- What a module declares without instructions. Of tables and memories there is at most one.
+abbrev pub is_declared : Context → Module → Bool
+is_declared c m =
     list_all is_function_type m.types
     && list_all (λ (i : Import). is_import m i.kind) m.imports
     && list_all is_table m.tables
     && list_all is_memory m.memories
-    && nat_le (context_of m).tables 1
-    && nat_le (context_of m).memories 1
-    && list_all (is_global m) m.globals
-    && list_all (λ (e : Export). is_export (context_of m) e.kind) m.exports
-    && are_different m.exports
-    && is_start (context_of m) m.start
-    && list_all (is_element (context_of m)) m.elements
-    && list_all (is_segment (context_of m)) m.segments
-    && are_functions (context_of m) m.functions m.codes
+    && nat_le c.tables 1
+    && nat_le c.memories 1
+    && list_all (λ (e : Export). is_export c e.kind) m.exports
+    && is_start c m.start
+
+-- what a module defines by instructions, and that its exports have different names
+abbrev pub is_defined : Context → List (ValType × Bool) → Module → Bool
+is_defined c imports m =
+    are_different m.exports
+    && list_all (is_global c imports) m.globals
+    && list_all (is_element c) m.elements
+    && list_all (is_segment c) m.segments
+    && are_functions c m.functions m.codes
+
+-- each rule of a module (3.4.10)
+abbrev pub is_typed : Module → Bool
+is_typed m = is_declared (context_of m) m && is_defined (context_of m) (globals_of m.imports) m

@@ -4,4 +4,10 @@
 mod blocks;
 mod body;
 mod context;
+mod imported;
 mod instruction;
+mod module;
+mod rules;
+mod valid;
+
+pub use valid::{Valid, ValidateFault, validate};
