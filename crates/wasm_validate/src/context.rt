@@ -1,12 +1,13 @@
 // What the instructions of a function may name, and what each leaves of the operands:
 // WebAssembly Core 1.0, sections 3.1 and 3.3.
-ghost use Rattle.std.specs.Prelude.{◌≡◌, [], ◌∷◌, IfOk, option_to_list, slice_get, option_copied};
+ghost use Rattle.std.specs.Prelude.{◌≡◌, ◌<◌, ◌^◌, [], ◌∷◌, IfOk, option_to_list, slice_get, option_copied};
 ghost use Rattle.wasm_ast.specs.Typing.{joined, selected, same_label, takes, table_label, branched, local_type, group_type, function_type, after_variable, is_aligned};
 ghost use Rattle.wasm_validate.specs.Blocks.{ended, labels_of};
-ghost use Rattle.wasm_validate.specs.Context.{context};
+ghost use Rattle.wasm_ast.specs.Locals.{total};
+ghost use Rattle.wasm_validate.specs.Ends.{ends_from};
 
 use super::blocks::Blocks;
-use std::alloc::AllocError;
+use std::alloc::{AllocError, Global};
 use wasm_ast::{Access, FuncType, LocalGroup, Targets, ValType, VariableOp};
 
 /// What the instructions of a function may name (3.1.1), apart from labels.
@@ -26,11 +27,16 @@ pub struct Context<'a> {
     pub params: &'a [ValType],
     /// The function's further locals.
     pub locals: &'a [LocalGroup],
+    /// How many of these there are up to each group and with it.
+    pub ends: &'a [usize],
     /// The type of the function's result, if any.
     pub result: Option<ValType>,
+    ghost ends_match: { ends.now ≡ ends_from 0 locals.now },
 }
 
 impl Context<'_> {
+    ghost use Rattle.wasm_validate.specs.Context.{context};
+
     /// The type of a local, parameters first (3.3.3).
     fn local(&self, index: u32) -> Option<ValType>
         ensures { result ≡ local_type self.now.params.now self.now.locals.now index }
@@ -39,7 +45,7 @@ impl Context<'_> {
         if index < self.params.len() {
             return Some(self.params[index]);
         }
-        group(self.locals, index - self.params.len())
+        group(self.locals, self.ends, index - self.params.len())
     }
 
     /// The type of a function.
@@ -91,19 +97,40 @@ impl Context<'_> {
     }
 }
 
-/// The type of the local of that number among groups of locals.
-fn group(groups: &[LocalGroup], index: usize) -> Option<ValType>
+/// How many locals there are up to each group and with it.
+pub fn ends(alloc: Global, groups: &[LocalGroup]) -> Result<Vec<usize>, AllocError>
+    requires { total groups.now < 2 ^ 32 }
+    ensures { IfOk result (λ all. all.items ≡ ends_from 0 groups.now) }
+{
+    let mut all = Vec::new(alloc);
+    let mut end = 0;
+    for group in groups {
+        end += group.count as usize;
+        all.push(end)?;
+    }
+    Ok(all)
+}
+
+/// The type of the local of that number among groups of locals, whose ends are these.
+fn group(groups: &[LocalGroup], ends: &[usize], index: usize) -> Option<ValType>
+    requires { ends.now ≡ ends_from 0 groups.now }
     ensures { result ≡ group_type groups.now index }
 {
-    let mut left = index;
-    for group in groups {
-        let count = group.count as usize;
-        if left < count {
-            return Some(group.of);
+    let mut low = 0;
+    let mut high = ends.len();
+    while low < high {
+        let middle = low + (high - low) / 2;
+        if ends[middle] <= index {
+            low = middle + 1;
+        } else {
+            high = middle;
         }
-        left -= count;
     }
-    None
+    if low < groups.len() {
+        Some(groups[low].of)
+    } else {
+        None
+    }
 }
 
 /// Behind the values that an unconditional branch takes (3.3.5).

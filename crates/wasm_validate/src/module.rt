@@ -4,7 +4,7 @@ ghost use Rattle.std.specs.List.{list_all};
 ghost use Rattle.wasm_ast.specs.TypingModule.{context_of, globals_of, is_global, is_element, is_segment, is_function_of, are_functions, is_declared, is_defined, is_typed};
 ghost use Rattle.wasm_validate.specs.Context.{context};
 
-use super::context::Context;
+use super::context::{Context, ends};
 use super::imported;
 use super::rules::{are_different, are_function_types, are_imports, are_memories, are_tables};
 use std::alloc::{AllocError, Global};
@@ -26,6 +26,7 @@ pub fn is_module(alloc: Global, module: &Module) -> Result<bool, AllocError>
         globals: globals.as_slice(),
         params: &[],
         locals: &[],
+        ends: &[],
         result: None,
     };
     context.is_typed(alloc, imported.as_slice(), module)
@@ -170,6 +171,7 @@ impl Context<'_> {
         let Some(of) = self.types.get(of as usize) else {
             return Ok(false);
         };
+        let ends = ends(alloc, code.locals.groups())?;
         let context = Context {
             types: self.types,
             functions: self.functions,
@@ -178,6 +180,7 @@ impl Context<'_> {
             globals: self.globals,
             params: of.params.as_slice(),
             locals: code.locals.groups(),
+            ends: ends.as_slice(),
             result: of.results.as_slice().first().copied(),
         };
         context.is_body(alloc, &code.body)

@@ -120,6 +120,7 @@ impl Context<'_> {
             globals,
             params: &[],
             locals: &[],
+            ends: &[],
             result: Some(of),
         };
         context.is_body(alloc, body)

@@ -1,6 +1,13 @@
-use Rattle.std.proofs.Common.{◌≡◌, drop}
-use Rattle.wasm_ast.specs.Typing.{group_type}
+use Rattle.std.proofs.Common.{ℕ, ◌-◌, ◌<◌, ◌≤◌, length, get_or}
 use Rattle.wasm_validate.proofs.context.group.Given as goal
 
-abbrev pub invariant-loop-group : goal.invariant-loop-group
-invariant-loop-group l = group_type (drop l.group-index l.groups) l.left ≡ group_type l.groups l.index
+abbrev pub invariant-loop-low : goal.invariant-loop-low
+invariant-loop-low l = record {
+  ordered : l.low ≤ l.high;
+  within : l.high ≤ length l.ends;
+  below : (k : ℕ) → k < l.low → get_or l.ends k 0 ≤ l.index;
+  above : (k : ℕ) → l.high ≤ k → k < length l.ends → l.index < get_or l.ends k 0;
+}
+
+abbrev pub decreases-loop-low : goal.decreases-loop-low
+decreases-loop-low l = l.high - l.low
