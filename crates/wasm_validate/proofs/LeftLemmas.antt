@@ -1,5 +1,5 @@
 -- Each turn keeps whether all that is left fits, and leaves fewer turns.
-use Rattle.std.proofs.Common.{◌≡◌, ℕ, ◌+◌, ◌<◌, ◌≤◌, Bool, true, false, ◌&&◌, if◌then◌else◌, List, [], ◌∷◌, length, drop, get_or, slice_get, Option, Some, None, option_and_then, option_to_list, refl, sym, ap, subst, ◌∙◌, arith, ⊎_elim}
+use Rattle.std.proofs.Common.{◌≡◌, ℕ, ◌+◌, Bool, true, false, ◌&&◌, if◌then◌else◌, List, [], ◌∷◌, length, drop, slice_get, Option, Some, None, option_and_then, option_to_list, refl, sym, ap, ◌∙◌, arith, ⊎_elim}
 use Rattle.std.proofs.lemmas.List.{drop_more, drop_all}
 use Rattle.std.proofs.lemmas.Option.{slice_get_within, get_or_from_slice_get, slice_get-get_or}
 use Rattle.std.proofs.lemmas.Bool.{cases_lt}
@@ -7,15 +7,15 @@ use Rattle.wasm_ast.specs.declared.types.ValType.{ValType}
 use Rattle.wasm_ast.specs.declared.types.ValType.TheVariants.{I32}
 use Rattle.wasm_ast.specs.declared.instr.Instr.{Instr}
 use Rattle.wasm_ast.specs.declared.instr.Instr.TheVariants as instr
-use Rattle.wasm_ast.specs.Sequence.{Sequence, Empty, Plain, Block, Loop, If}
+use Rattle.wasm_ast.specs.Sequence.{Sequence, Plain}
 use Rattle.wasm_ast.specs.Numbering.{list_at, in_front, sequence, nested}
-use Rattle.wasm_ast.specs.Typing.{Context, Labels, Operands, no_operands, given, popped, taken, after, leaves, typed, is_body}
+use Rattle.wasm_ast.specs.Typing.{Context, Labels, Operands, no_operands, given, popped, after, leaves, typed, is_body}
 use Rattle.wasm_validate.specs.declared.blocks.Kind.{Kind}
 use Rattle.wasm_validate.specs.declared.blocks.Kind.TheVariants as kind
 use Rattle.wasm_validate.specs.declared.blocks.Block as block
-use Rattle.wasm_validate.specs.declared.body.Turn.TheVariants.{Goes, Ends}
-use Rattle.wasm_validate.specs.Blocks.{Outer, Enclosing, OpenBlocks, label_of, outer_labels, labels_of, advanced, Closes}
-use Rattle.wasm_validate.specs.Left.{AreNested, remaining, second_fits, block_fits, outer_fit, all_fit, size, second_size, block_size, outer_size, turns_left, entered, Turns}
+use Rattle.wasm_validate.specs.declared.body.Turn.TheVariants.{Goes}
+use Rattle.wasm_validate.specs.Blocks.{Outer, Enclosing, OpenBlocks, outer_labels, labels_of, advanced, Closes}
+use Rattle.wasm_validate.specs.Left.{AreNested, remaining, second_fits, outer_fit, all_fit, size, second_size, block_size, outer_size, turns_left, entered, Turns}
 
 module _ {X : Type 0} where
   pub next_at : (xs : List X) (n : ℕ) (x : X) → slice_get xs n ≡ Some x → drop n xs ≡ x ∷ drop (n + 1) xs

@@ -2,3 +2,4 @@ pub mod StackLemmas
 pub mod LocalLemmas
 pub mod LeftLemmas
 pub mod ModuleLemmas
+pub mod NumberedLemmas

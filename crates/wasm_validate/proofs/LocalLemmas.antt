@@ -1,8 +1,7 @@
 -- The type of a local is that of a parameter, or of one behind the parameters.
-use Rattle.std.proofs.Common.{◌≡◌, ℕ, zero, suc, ◌+◌, ◌-◌, ◌<◌, ◌≤◌, List, [], ◌∷◌, length, get_or, Option, Some, None, cond, refl, subst, sym, ap, ◌∙◌, arith, add-one, sub-one}
+use Rattle.std.proofs.Common.{◌≡◌, ℕ, zero, suc, ◌+◌, ◌-◌, ◌<◌, ◌≤◌, List, [], ◌∷◌, length, get_or, Some, None, cond, refl, subst, sym, ap, ◌∙◌, arith}
 use Rattle.wasm_ast.specs.declared.types.ValType.{ValType}
 use Rattle.wasm_ast.specs.declared.locals.LocalGroup.{LocalGroup}
-use Rattle.wasm_ast.specs.Locals.{total}
 use Rattle.wasm_ast.specs.Typing.{group_type, local_type}
 use Rattle.wasm_validate.specs.Ends.{ends_from}
 use Rattle.std.proofs.lemmas.Bool.{lt-ltb, le-ltb}

@@ -1,12 +1,12 @@
 -- How the open blocks lie in the two stacks, as blocks are opened, closed and named by labels.
-use Rattle.std.proofs.Common.{◌≡◌, ℕ, zero, suc, ◌+◌, ◌-◌, ◌<◌, ◌≤◌, Bool, true, false, List, [], ◌∷◌, ◌++◌, map, length, take, drop, reverse, get_or, slice_get, Option, Some, None, option_and_then, option_map, refl, sym, ap, subst, ◌∙◌, arith}
-use Rattle.std.proofs.lemmas.List.{reverse-append, length-reverse, length-append, length-take, length-drop, take-append-drop, drop_at, get_or-reverse, length-map, drop_more, take_more}
+use Rattle.std.proofs.Common.{◌≡◌, ℕ, zero, suc, ◌+◌, ◌-◌, ◌<◌, ◌≤◌, true, List, [], ◌∷◌, ◌++◌, map, length, take, drop, reverse, get_or, slice_get, Option, Some, None, option_and_then, option_map, refl, sym, ap, ◌∙◌, arith}
+use Rattle.std.proofs.lemmas.List.{reverse-append, length-reverse, length-drop, take-append-drop, drop_at, get_or-reverse, length-map, take_more}
 use Rattle.std.proofs.lemmas.Option.{slice_get-get_or, slice_get_past, slice_get-map}
 use Rattle.wasm_ast.specs.declared.types.ValType.{ValType}
-use Rattle.wasm_ast.specs.Typing.{Operands, pushed, popped, taken, given, is_empty}
+use Rattle.wasm_ast.specs.Typing.{Operands, popped, taken, is_empty}
 use Rattle.wasm_validate.specs.declared.blocks.Frame.{Frame}
-use Rattle.wasm_validate.specs.Blocks.{Outer, OpenBlocks, label_of, outer_labels, Closes}
-use Rattle.wasm_validate.specs.View.{operands_of, outer_of, view_of, count_of}
+use Rattle.wasm_validate.specs.Blocks.{label_of, outer_labels, Closes}
+use Rattle.wasm_validate.specs.View.{outer_of, view_of, count_of}
 
 module _ {X : Type 0} where
   pub reverse_push : (xs : List X) (x : X) → reverse (xs ++ x ∷ []) ≡ x ∷ reverse xs

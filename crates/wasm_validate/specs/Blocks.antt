@@ -1,5 +1,5 @@
 -- The open blocks of a function while its instructions are read.
-use Rattle.std.specs.Prelude.{◌≡◌, ℕ, ◌+◌, Bool, true, false, List, [], ◌∷◌, Option, Some, None}
+use Rattle.std.specs.Prelude.{◌≡◌, ◌+◌, Bool, true, false, List, [], ◌∷◌, Option, Some, None}
 use Rattle.wasm_ast.specs.declared.types.ValType.{ValType}
 use Rattle.wasm_ast.specs.Typing.{Operands, Labels}
 use Rattle.wasm_validate.specs.declared.blocks.Kind.{Kind}

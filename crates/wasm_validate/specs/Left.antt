@@ -1,5 +1,5 @@
 -- What is left to read of the open blocks, and whether it fits.
-use Rattle.std.specs.Prelude.{◌≡◌, ℕ, ◌+◌, ◌<◌, Bool, true, false, ◌&&◌, List, [], ◌∷◌, drop, Option, option_to_list}
+use Rattle.std.specs.Prelude.{◌≡◌, ℕ, ◌+◌, ◌<◌, Bool, true, ◌&&◌, List, [], ◌∷◌, drop, Option, option_to_list}
 use Rattle.wasm_ast.specs.declared.types.ValType.{ValType}
 use Rattle.wasm_ast.specs.declared.instr.Instr.{Instr}
 use Rattle.wasm_ast.specs.Sequence.{Sequence, Empty, Plain, Block, Loop, If}
@@ -10,7 +10,7 @@ use Rattle.wasm_validate.specs.declared.blocks.Kind.TheVariants as kind
 use Rattle.wasm_validate.specs.declared.blocks.Block as block
 use Rattle.wasm_validate.specs.declared.body.Turn.{Turn}
 use Rattle.wasm_validate.specs.declared.body.Turn.TheVariants.{Goes, Ends}
-use Rattle.wasm_validate.specs.Blocks.{Outer, Enclosing, OpenBlocks, label_of, outer_labels, labels_of, advanced}
+use Rattle.wasm_validate.specs.Blocks.{Outer, Enclosing, OpenBlocks, label_of, outer_labels}
 
 -- each numbered list means what its instructions mean
 abbrev pub AreNested : List (List Instr) → Type 0

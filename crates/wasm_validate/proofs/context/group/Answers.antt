@@ -1,4 +1,4 @@
-use Rattle.std.proofs.Common.{◌≡◌, ◌+◌, ◌-◌, ◌/◌, ◌<◌, ◌≤◌, arith}
+use Rattle.std.proofs.Common.{◌+◌, ◌-◌, ◌/◌, arith}
 use Rattle.wasm_validate.proofs.LocalLemmas.{rise, found, absent}
 use Rattle.wasm_validate.proofs.context.group.Goals as goal
 

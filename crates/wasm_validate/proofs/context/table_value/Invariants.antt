@@ -1,4 +1,4 @@
-use Rattle.std.proofs.Common.{◌≡◌, true, drop, slice_get}
+use Rattle.std.proofs.Common.{◌≡◌, drop, slice_get}
 use Rattle.std.specs.List.{list_all}
 use Rattle.wasm_ast.specs.Typing.{takes}
 use Rattle.wasm_validate.specs.Blocks.{labels_of}

@@ -1,4 +1,4 @@
-use Rattle.std.proofs.Common.{◌≡◌, true, subst, ap, ◌∙◌, sym}
+use Rattle.std.proofs.Common.{true, subst, ap, ◌∙◌}
 use Rattle.wasm_ast.specs.Typing.{is_empty}
 use Rattle.wasm_validate.specs.Blocks.{OpenBlocks, Closes}
 use Rattle.wasm_validate.proofs.StackLemmas.{close_whole, closes}

@@ -1,4 +1,4 @@
-use Rattle.std.proofs.Common.{◌≡◌, ◌-◌, ◌<◌, ◌≤◌, length, arith, ◌∙◌}
+use Rattle.std.proofs.Common.{arith, ◌∙◌}
 use Rattle.wasm_validate.proofs.StackLemmas.{taken_stops, taken_goes}
 use Rattle.wasm_validate.proofs.blocks.Blocks.expect_all.Goals as goal
 

@@ -1,6 +1,6 @@
-use Rattle.std.proofs.Common.{◌≡◌, drop, nat_lt, length}
+use Rattle.std.proofs.Common.{◌≡◌, drop}
 use Rattle.std.specs.List.{list_all}
-use Rattle.wasm_ast.specs.TypingModule.{is_global, is_element, is_segment}
+use Rattle.wasm_ast.specs.TypingModule.{is_element}
 use Rattle.wasm_validate.specs.Context.{context}
 use Rattle.wasm_validate.proofs.context.Context.are_elements.Given as goal
 

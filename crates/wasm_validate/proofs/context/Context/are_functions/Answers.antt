@@ -1,4 +1,4 @@
-use Rattle.std.proofs.Common.{◌≡◌, sym}
+use Rattle.std.proofs.Common.{sym}
 use Rattle.wasm_validate.specs.Context.{context}
 use Rattle.wasm_validate.proofs.ModuleLemmas.{not_paired}
 use Rattle.wasm_validate.proofs.context.Context.are_functions.Goals as goal

@@ -1,4 +1,4 @@
-use Rattle.std.proofs.Common.{◌≡◌, ℕ, Bool, false, true, Option, Some, None, option_to_list, subst, ap, sym, ◌∙◌, refl}
+use Rattle.std.proofs.Common.{false, true, Some, option_to_list, subst, ap, sym, ◌∙◌}
 use Rattle.wasm_ast.specs.Typing.{leaves, given, no_operands}
 use Rattle.wasm_validate.specs.declared.blocks.Kind.TheVariants as kind
 use Rattle.wasm_validate.specs.declared.blocks.Block.{Block}

@@ -1,4 +1,4 @@
-use Rattle.std.proofs.Common.{◌≡◌, ◌+◌, ◌-◌, ◌<◌, ◌≤◌, length, get_or, sym, ◌∙◌, arith}
+use Rattle.std.proofs.Common.{◌-◌, length, sym, ◌∙◌, arith}
 use Rattle.wasm_validate.proofs.LocalLemmas.{local_param, local_group}
 use Rattle.wasm_validate.proofs.context.Context.local.Goals as goal
 

@@ -1,15 +1,11 @@
-use Rattle.std.proofs.Common.{◌≡◌, ℕ, Bool, false, true, Option, Some, None, slice_get, subst, ap, sym, ◌∙◌, refl}
-use Rattle.wasm_ast.specs.declared.instr.Instr.{Instr}
-use Rattle.wasm_ast.specs.declared.instr.Instr.TheVariants as instr
-use Rattle.wasm_ast.specs.Numbering.{list_at, in_front, nested}
-use Rattle.wasm_ast.specs.Sequence.{Plain}
-use Rattle.wasm_ast.specs.Typing.{after}
+use Rattle.std.proofs.Common.{Some, slice_get, subst, ap, sym, ◌∙◌}
+use Rattle.wasm_ast.specs.Numbering.{list_at, nested}
 use Rattle.wasm_validate.specs.declared.blocks.Kind.TheVariants as kind
 use Rattle.wasm_validate.specs.declared.blocks.Block.{Block}
 use Rattle.wasm_validate.specs.declared.body.Turn.TheVariants.{Goes}
-use Rattle.wasm_validate.specs.Blocks.{OpenBlocks, Enclosing, ended, labels_of, advanced}
+use Rattle.wasm_validate.specs.Blocks.{OpenBlocks, Enclosing, ended, advanced}
 use Rattle.wasm_validate.specs.Context.{context}
-use Rattle.wasm_validate.specs.Left.{Turns, entered, remaining}
+use Rattle.wasm_validate.specs.Left.{Turns, entered}
 use Rattle.wasm_validate.proofs.LeftLemmas.{enters_block, enters_loop, enters_if, refuses_if, refuses, goes_on, same_blocks, plain_front}
 use Rattle.wasm_validate.proofs.context.Context.turn.Goals as goal
 
