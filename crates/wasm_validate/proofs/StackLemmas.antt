@@ -1,9 +1,9 @@
 -- How the open blocks lie in the two stacks, as blocks are opened, closed and named by labels.
-use Rattle.std.proofs.Common.{◌≡◌, ℕ, zero, suc, ◌+◌, ◌-◌, ◌<◌, ◌≤◌, true, List, [], ◌∷◌, ◌++◌, map, length, take, drop, reverse, get_or, slice_get, Option, Some, None, option_and_then, option_map, refl, sym, ap, ◌∙◌, arith}
+use Rattle.std.proofs.Common.{◌≡◌, ℕ, zero, suc, ◌+◌, ◌-◌, ◌<◌, ◌≤◌, Bool, true, false, ◌&&◌, List, [], ◌∷◌, ◌++◌, map, length, take, drop, reverse, get_or, slice_get, Option, Some, None, option_and_then, option_map, refl, sym, ap, ◌∙◌, arith}
 use Rattle.std.proofs.lemmas.List.{reverse-append, length-reverse, length-drop, take-append-drop, drop_at, get_or-reverse, length-map, take_more}
 use Rattle.std.proofs.lemmas.Option.{slice_get-get_or, slice_get_past, slice_get-map}
 use Rattle.wasm_ast.specs.declared.types.ValType.{ValType}
-use Rattle.wasm_ast.specs.Typing.{Operands, popped, taken, is_empty}
+use Rattle.wasm_ast.specs.Typing.{Operands, any_operands, popped, taken, is_empty}
 use Rattle.wasm_validate.specs.declared.blocks.Frame.{Frame}
 use Rattle.wasm_validate.specs.Blocks.{label_of, outer_labels, Closes}
 use Rattle.wasm_validate.specs.View.{outer_of, view_of, count_of}
@@ -81,3 +81,17 @@ taken_stops ts n d s o p h e q = ap (option_and_then (taken (take (n - 1) ts))) 
 
 pub taken_goes : (ts : List ValType) (n : ℕ) (d : ValType) (s s' : Operands) (o : Option Operands) → 0 < n → n ≤ length ts → Some s' ≡ popped (get_or ts (n - 1) d) s → taken (take n ts) s ≡ o → taken (take (n - 1) ts) s' ≡ o
 taken_goes ts n d s s' o p h e q = ap (option_and_then (taken (take (n - 1) ts))) e ∙ sym (taken_more ts (n - 1) n d s p h refl) ∙ q
+
+-- each type may be taken where anything may stand
+taken_any : (ts : List ValType) → taken ts any_operands ≡ Some any_operands
+taken_any [] = refl
+taken_any (t ∷ ts) = ap (option_and_then (popped t)) (taken_any ts)
+
+taken_marked : (ts : List ValType) (marked : Bool) (xs : List (Option ValType)) → true ≡ (marked && is_empty xs) →
+    Some (record { marked = marked; types = xs }) ≡ taken ts (record { marked = marked; types = xs })
+taken_marked ts true [] h = sym (taken_any ts)
+taken_marked ts true (x ∷ xs) h = absurd (cc)
+taken_marked ts false xs h = absurd (cc)
+
+pub taken_rest : (ts : List ValType) (n : ℕ) (s : Operands) (o : Option Operands) → true ≡ (s.marked && is_empty s.types) → taken (take n ts) s ≡ o → Some s ≡ o
+taken_rest ts n s o h q = taken_marked (take n ts) s.marked s.types h ∙ q

@@ -1,5 +1,5 @@
 // The open blocks of a function, with their operands.
-ghost use Rattle.std.specs.Prelude.{◌≡◌, ◌+◌, ◌<◌, ◌^◌, true, [], ◌∷◌, IfOk, OnOk, option_to_list, slice_get};
+ghost use Rattle.std.specs.Prelude.{◌≡◌, ◌+◌, ◌<◌, ◌^◌, ◌&&◌, true, [], ◌∷◌, IfOk, OnOk, option_to_list, slice_get};
 ghost use Rattle.wasm_ast.specs.Typing.{no_operands, any_operands, pushed, drawn, popped, taken, given, applied, is_empty};
 ghost use Rattle.wasm_validate.specs.Blocks.{OpenBlocks, ended, drawn_to, label_of, labels_of, advanced, Closes};
 
@@ -131,13 +131,21 @@ impl Blocks {
         }
     }
 
-    /// Takes the last operands, which are to be of those types.
+    /// Whether anything may stand in place of each operand.
+    fn is_any(&self) -> bool
+        ensures { result ≡ (self.now.operands.marked && is_empty self.now.operands.types) }
+    {
+        self.innermost.marked && self.innermost.own == 0
+    }
+
+    /// Takes the last operands, which are to be of those types. In code that isn't reached it takes no
+    /// longer than there are operands.
     pub fn expect_all(&mut self, of: &[ValType]) -> bool
         ensures operands { ended result self.new.operands ≡ taken of.now self.old.operands }
         ensures enclosing { self.new.enclosing ≡ self.old.enclosing }
     {
         let mut left = of.len();
-        while left > 0 {
+        while left > 0 && !self.is_any() {
             left -= 1;
             if !self.expect(of[left]) {
                 return false;

@@ -1,5 +1,5 @@
 use Rattle.std.proofs.Common.{arith, ◌∙◌}
-use Rattle.wasm_validate.proofs.StackLemmas.{taken_stops, taken_goes}
+use Rattle.wasm_validate.proofs.StackLemmas.{taken_stops, taken_goes, taken_rest}
 use Rattle.wasm_validate.proofs.blocks.Blocks.expect_all.Goals as goal
 
 pub returns-then-not-expect-clause-operands : goal.returns-then-not-expect-clause-operands
@@ -12,3 +12,7 @@ loop-left-preserved c = record {
   operands = taken_goes c.args.of.now c.loop-left.left _ c.loop-left.self.operands c.expect.new.self.operands _ c.loop-left-test.true c.loop-left.invariant.within c.if-not-expect.ensures.operands c.loop-left.invariant.operands;
   enclosing = c.if-not-expect.ensures.enclosing ∙ c.loop-left.invariant.enclosing;
 }
+
+pub returns-else-not-is_any-clause-operands : goal.returns-else-not-is_any-clause-operands
+returns-else-not-is_any-clause-operands c =
+    taken_rest c.args.of.now c.loop-left.left c.loop-left.self.operands _ (c.if-not-is_any.ensures) c.loop-left.invariant.operands
