@@ -7,3 +7,5 @@ pub mod Spelling
 pub mod SpelledTypes
 pub mod SpelledInstr
 pub mod SpelledModule
+pub mod Typing
+pub mod TypingModule

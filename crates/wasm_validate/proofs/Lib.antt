@@ -1,0 +1,5 @@
+pub mod StackLemmas
+pub mod LocalLemmas
+pub mod LeftLemmas
+pub mod ModuleLemmas
+pub mod NumberedLemmas

@@ -1,0 +1,97 @@
+-- How the open blocks lie in the two stacks, as blocks are opened, closed and named by labels.
+use Rattle.std.proofs.Common.{◌≡◌, ℕ, zero, suc, ◌+◌, ◌-◌, ◌<◌, ◌≤◌, Bool, true, false, ◌&&◌, List, [], ◌∷◌, ◌++◌, map, length, take, drop, reverse, get_or, slice_get, Option, Some, None, option_and_then, option_map, refl, sym, ap, ◌∙◌, arith}
+use Rattle.std.proofs.lemmas.List.{reverse-append, length-reverse, length-drop, take-append-drop, drop_at, get_or-reverse, length-map, take_more}
+use Rattle.std.proofs.lemmas.Option.{slice_get-get_or, slice_get_past, slice_get-map}
+use Rattle.wasm_ast.specs.declared.types.ValType.{ValType}
+use Rattle.wasm_ast.specs.Typing.{Operands, any_operands, popped, taken, is_empty}
+use Rattle.wasm_validate.specs.declared.blocks.Frame.{Frame}
+use Rattle.wasm_validate.specs.Blocks.{label_of, outer_labels, Closes}
+use Rattle.wasm_validate.specs.View.{outer_of, view_of, count_of}
+
+module _ {X : Type 0} where
+  pub reverse_push : (xs : List X) (x : X) → reverse (xs ++ x ∷ []) ≡ x ∷ reverse xs
+  reverse_push xs x = reverse-append xs (x ∷ [])
+
+  -- all but the last ones
+  pub drop-reverse : (xs : List X) (k : ℕ) → k ≤ length xs → drop k (reverse xs) ≡ reverse (take (length xs - k) xs)
+  drop-reverse xs k h =
+      let split : reverse xs ≡ reverse (drop (length xs - k) xs) ++ reverse (take (length xs - k) xs) = ap reverse (sym (take-append-drop (length xs - k) xs)) ∙ reverse-append (take (length xs - k) xs) (drop (length xs - k) xs) in
+      let long : length (reverse (drop (length xs - k) xs)) ≡ k = length-reverse (drop (length xs - k) xs) ∙ length-drop (length xs - k) xs ∙ omega arith in
+      ap (drop k) split ∙ drop_at (reverse (drop (length xs - k) xs)) (reverse (take (length xs - k) xs)) k long
+
+-- a block that has no operands counts none
+pub none_own : (n : ℕ) (xs : List (Option ValType)) → n ≤ length xs → is_empty (take n xs) ≡ true → n ≡ 0
+none_own zero xs h e = refl
+none_own (suc n) [] h e = absurd (omega arith)
+none_own (suc n) (x ∷ xs) h e = cc
+
+pub close_whole : (f g : Frame) (fs outs : List Frame) (xs : List (Option ValType)) → outs ≡ fs ++ f ∷ [] → g.own + count_of (reverse outs) ≡ length xs →
+    is_empty (take g.own (reverse xs)) ≡ true → f.own + count_of (reverse fs) ≡ length xs
+close_whole f g fs outs xs e w h =
+    let none : g.own ≡ 0 = none_own g.own (reverse xs) (omega (arith, length-reverse xs)) h in
+    let count : count_of (reverse outs) ≡ f.own + count_of (reverse fs) = ap count_of (ap reverse e ∙ reverse_push fs f) in
+    omega arith
+
+pub closes : (f g : Frame) (fs outs : List Frame) (xs : List (Option ValType)) → outs ≡ fs ++ f ∷ [] → g.own + count_of (reverse outs) ≡ length xs →
+    is_empty (take g.own (reverse xs)) ≡ true → Closes (outer_of (reverse outs) (drop g.own (reverse xs))) true (view_of f (reverse fs) (reverse xs))
+closes f g fs outs xs e w h =
+    let none : g.own ≡ 0 = none_own g.own (reverse xs) (omega (arith, length-reverse xs)) h in
+    let order : reverse outs ≡ f ∷ reverse fs = ap reverse e ∙ reverse_push fs f in
+    rw (order, none) (refl, refl)
+
+abbrev frame_label : Frame → Option ValType
+frame_label f = label_of f.block.kind f.block.of
+
+pub outer_labels-outer_of : (fs : List Frame) (xs : List (Option ValType)) → outer_labels (outer_of fs xs) ≡ map frame_label fs
+outer_labels-outer_of [] xs = refl
+outer_labels-outer_of (f ∷ fs) xs = ap (λ ls. frame_label f ∷ ls) (outer_labels-outer_of fs (drop f.own xs))
+
+-- the label of a block by its place in the stack
+pub label_at : (outs : List Frame) (f : Frame) (xs : List (Option ValType)) (l : Option ValType) (count n : ℕ) → count ≡ length outs → 0 < n → n ≤ count → f ≡ get_or outs (count - n) f →
+    Some (frame_label f) ≡ slice_get (l ∷ outer_labels (outer_of (reverse outs) xs)) n
+label_at outs f xs l count zero q p h e = absurd (omega arith)
+label_at outs f xs l count (suc n) q p h e =
+    let place : length outs - 1 - n ≡ count - suc n = omega arith in
+    let at : slice_get (reverse outs) n ≡ Some f =
+    slice_get-get_or (reverse outs) n f (omega (arith, length-reverse outs))
+    ∙ ap Some (get_or-reverse outs n f (omega arith) ∙ ap (λ k. get_or outs k f) place ∙ sym e) in
+    sym (ap (λ ls. slice_get ls n) (outer_labels-outer_of (reverse outs) xs) ∙ slice_get-map frame_label (reverse outs) n ∙ ap (option_map frame_label) at)
+
+pub label_past : (outs : List Frame) (xs : List (Option ValType)) (l : Option ValType) (n : ℕ) → 0 < n → length outs < n →
+    None ≡ slice_get (l ∷ outer_labels (outer_of (reverse outs) xs)) n
+label_past outs xs l zero p h = absurd (omega arith)
+label_past outs xs l (suc n) p h =
+    sym (ap (λ ls. slice_get ls n) (outer_labels-outer_of (reverse outs) xs)
+    ∙ slice_get_past (map frame_label (reverse outs)) n (omega (arith, length-map (reverse outs) frame_label, length-reverse outs)))
+
+-- the last of some types is taken first
+pub taken-push : (ts : List ValType) (t : ValType) (s : Operands) → taken (ts ++ t ∷ []) s ≡ option_and_then (taken ts) (popped t s)
+taken-push [] t s = elim (popped t s) as (λ o. o ≡ option_and_then (taken []) o) [ None ↦ refl | Some a ↦ refl ]
+taken-push (u ∷ ts) t s =
+    ap (option_and_then (popped u)) (taken-push ts t s)
+    ∙ (elim (popped t s) as (λ o. option_and_then (popped u) (option_and_then (taken ts) o) ≡ option_and_then (taken (u ∷ ts)) o) [ None ↦ refl | Some a ↦ refl ])
+
+pub taken_more : (ts : List ValType) (k n : ℕ) (d : ValType) (s : Operands) → 0 < n → n ≤ length ts → k ≡ n - 1 → taken (take n ts) s ≡ option_and_then (taken (take k ts)) (popped (get_or ts k d) s)
+taken_more ts k n d s p h e =
+    let next : n ≡ k + 1 = omega arith in
+    ap (λ m. taken (take m ts) s) next ∙ ap (λ us. taken us s) (take_more ts k d (omega arith)) ∙ taken-push (take k ts) (get_or ts k d) s
+
+pub taken_stops : (ts : List ValType) (n : ℕ) (d : ValType) (s : Operands) (o : Option Operands) → 0 < n → n ≤ length ts → None ≡ popped (get_or ts (n - 1) d) s → taken (take n ts) s ≡ o → None ≡ o
+taken_stops ts n d s o p h e q = ap (option_and_then (taken (take (n - 1) ts))) e ∙ sym (taken_more ts (n - 1) n d s p h refl) ∙ q
+
+pub taken_goes : (ts : List ValType) (n : ℕ) (d : ValType) (s s' : Operands) (o : Option Operands) → 0 < n → n ≤ length ts → Some s' ≡ popped (get_or ts (n - 1) d) s → taken (take n ts) s ≡ o → taken (take (n - 1) ts) s' ≡ o
+taken_goes ts n d s s' o p h e q = ap (option_and_then (taken (take (n - 1) ts))) e ∙ sym (taken_more ts (n - 1) n d s p h refl) ∙ q
+
+-- each type may be taken where anything may stand
+taken_any : (ts : List ValType) → taken ts any_operands ≡ Some any_operands
+taken_any [] = refl
+taken_any (t ∷ ts) = ap (option_and_then (popped t)) (taken_any ts)
+
+taken_marked : (ts : List ValType) (marked : Bool) (xs : List (Option ValType)) → true ≡ (marked && is_empty xs) →
+    Some (record { marked = marked; types = xs }) ≡ taken ts (record { marked = marked; types = xs })
+taken_marked ts true [] h = sym (taken_any ts)
+taken_marked ts true (x ∷ xs) h = absurd (cc)
+taken_marked ts false xs h = absurd (cc)
+
+pub taken_rest : (ts : List ValType) (n : ℕ) (s : Operands) (o : Option Operands) → true ≡ (s.marked && is_empty s.types) → taken (take n ts) s ≡ o → Some s ≡ o
+taken_rest ts n s o h q = taken_marked (take n ts) s.marked s.types h ∙ q

@@ -1,0 +1,5 @@
+pub mod Blocks
+pub mod View
+pub mod Context
+pub mod Left
+pub mod Ends

@@ -1,0 +1,291 @@
+// The open blocks of a function, with their operands.
+ghost use Rattle.std.specs.Prelude.{◌≡◌, ◌+◌, ◌<◌, ◌^◌, ◌&&◌, true, [], ◌∷◌, IfOk, OnOk, option_to_list, slice_get};
+ghost use Rattle.wasm_ast.specs.Typing.{no_operands, any_operands, pushed, drawn, popped, taken, given, applied, is_empty};
+ghost use Rattle.wasm_validate.specs.Blocks.{OpenBlocks, ended, drawn_to, label_of, labels_of, advanced, Closes};
+
+use std::alloc::{AllocError, Global};
+use std::marker::Model;
+use wasm_ast::ValType;
+
+/// What an open block is.
+#[derive(Clone, Copy)]
+pub enum Kind {
+    /// A block, the second arm of an if, or the function's own instructions.
+    Plain,
+    Loop,
+    /// The first arm of an if, with the number of the list of the second.
+    FirstArm(u32),
+}
+
+/// An open block: which of its instructions comes next.
+#[derive(Clone, Copy)]
+pub struct Block {
+    pub kind: Kind,
+    /// The type of the value that it leaves, if any.
+    pub of: Option<ValType>,
+    /// The number of its list of instructions.
+    pub list: u32,
+    /// The place of the next instruction in the list.
+    pub next: usize,
+}
+
+/// An open block and its operands, which lie in a stack with those of the others.
+#[derive(Clone, Copy)]
+struct Frame {
+    block: Block,
+    /// How many of the operands are its own.
+    own: usize,
+    /// Whether anything may stand below them, in code that isn't reached.
+    marked: bool,
+}
+
+/// The open blocks. There is at least the one of the function's own instructions.
+#[derive(Drop)]
+pub struct Blocks {
+    innermost: Frame,
+    outer: Vec<Frame>,
+    operands: Vec<Option<ValType>>,
+}
+
+impl Model for Blocks {
+    ghost use Rattle.wasm_validate.specs.Blocks.{OpenBlocks};
+
+    ghost Value = { OpenBlocks };
+
+    ghost use Rattle.wasm_validate.specs.View.{blocks_of, IsWhole};
+
+    ghost view = { blocks_of };
+
+    ghost invariant = { IsWhole };
+}
+
+impl Blocks {
+    /// The one block of a function's own instructions, in list 0, without operands. No memory is taken.
+    pub fn new(alloc: Global, of: Option<ValType>) -> Blocks
+        ensures operands { result.operands ≡ no_operands }
+        ensures block { result.enclosing.block ≡ record { kind = Kind.Plain; of = of; list = 0; next = 0 } }
+        ensures outer { result.enclosing.outer ≡ [] }
+    {
+        Blocks {
+            innermost: Frame {
+                block: Block {
+                    kind: Kind::Plain,
+                    of,
+                    list: 0,
+                    next: 0,
+                },
+                own: 0,
+                marked: false,
+            },
+            outer: Vec::new(alloc),
+            operands: Vec::new(alloc),
+        }
+    }
+
+    /// Adds an operand, of a known type or of any.
+    pub fn push(&mut self, of: Option<ValType>) -> Result<(), AllocError>
+        ensures operands { OnOk result (self.new.operands ≡ pushed of self.old.operands) }
+        ensures enclosing { self.new.enclosing ≡ self.old.enclosing }
+    {
+        self.operands.push(of)?;
+        self.innermost.own += 1;
+        Ok(())
+    }
+
+    /// Takes the last operand, if there is one.
+    pub fn pop(&mut self) -> Option<Option<ValType>>
+        ensures operands { drawn_to result self.new.operands ≡ drawn self.old.operands }
+        ensures enclosing { self.new.enclosing ≡ self.old.enclosing }
+    {
+        if self.innermost.own == 0 {
+            return if self.innermost.marked {
+                Some(None)
+            } else {
+                None
+            };
+        }
+        self.innermost.own -= 1;
+        self.operands.pop()
+    }
+
+    /// Takes the last operand, which is to be of that type.
+    pub fn expect(&mut self, of: ValType) -> bool
+        ensures operands { ended result self.new.operands ≡ popped of self.old.operands }
+        ensures enclosing { self.new.enclosing ≡ self.old.enclosing }
+    {
+        match self.pop() {
+            None => false,
+            Some(None) => true,
+            Some(Some(found)) => found.is(of),
+        }
+    }
+
+    /// Takes the last operand, which is to be of that type, if there is one.
+    pub fn expect_value(&mut self, of: Option<ValType>) -> bool
+        ensures operands { ended result self.new.operands ≡ taken (option_to_list of) self.old.operands }
+        ensures enclosing { self.new.enclosing ≡ self.old.enclosing }
+    {
+        match of {
+            None => true,
+            Some(of) => self.expect(of),
+        }
+    }
+
+    /// Whether anything may stand in place of each operand.
+    fn is_any(&self) -> bool
+        ensures { result ≡ (self.now.operands.marked && is_empty self.now.operands.types) }
+    {
+        self.innermost.marked && self.innermost.own == 0
+    }
+
+    /// Takes the last operands, which are to be of those types. In code that isn't reached it takes no
+    /// longer than there are operands.
+    pub fn expect_all(&mut self, of: &[ValType]) -> bool
+        ensures operands { ended result self.new.operands ≡ taken of.now self.old.operands }
+        ensures enclosing { self.new.enclosing ≡ self.old.enclosing }
+    {
+        let mut left = of.len();
+        while left > 0 && !self.is_any() {
+            left -= 1;
+            if !self.expect(of[left]) {
+                return false;
+            }
+        }
+        true
+    }
+
+    /// Adds an operand of that type, if there is one.
+    pub fn give_value(&mut self, of: Option<ValType>) -> Result<(), AllocError>
+        ensures operands { OnOk result (self.new.operands ≡ given (option_to_list of) self.old.operands) }
+        ensures enclosing { self.new.enclosing ≡ self.old.enclosing }
+    {
+        match of {
+            None => Ok(()),
+            Some(of) => self.push(Some(of)),
+        }
+    }
+
+    /// Adds operands of those types.
+    pub fn give(&mut self, of: &[ValType]) -> Result<(), AllocError>
+        ensures operands { OnOk result (self.new.operands ≡ given of.now self.old.operands) }
+        ensures enclosing { self.new.enclosing ≡ self.old.enclosing }
+    {
+        for t in of {
+            self.push(Some(*t))?;
+        }
+        Ok(())
+    }
+
+    /// Takes operands of some types, and gives those of others.
+    pub fn apply(&mut self, params: &[ValType], results: &[ValType]) -> Result<bool, AllocError>
+        ensures operands { IfOk result (λ fits. ended fits self.new.operands ≡ applied params.now results.now self.old.operands) }
+        ensures enclosing { self.new.enclosing ≡ self.old.enclosing }
+    {
+        if !self.expect_all(params) {
+            return Ok(false);
+        }
+        self.give(results)?;
+        Ok(true)
+    }
+
+    /// Leaves anything in place of the operands, as an unconditional branch does.
+    pub fn give_any(&mut self)
+        ensures operands { self.new.operands ≡ any_operands }
+        ensures enclosing { self.new.enclosing ≡ self.old.enclosing }
+    {
+        self.operands
+            .truncate(self.operands.len() - self.innermost.own);
+        self.innermost.own = 0;
+        self.innermost.marked = true;
+    }
+
+    /// Whether the innermost block has no operands.
+    pub fn is_empty(&self) -> bool
+        ensures { result ≡ is_empty self.now.operands.types }
+    {
+        self.innermost.own == 0
+    }
+
+    /// What a branch to a label takes, if there is that label.
+    pub fn label(&self, label: u32) -> Option<Option<ValType>>
+        ensures { result ≡ slice_get (labels_of self.now.enclosing) label }
+    {
+        if label == 0 {
+            return Some(self.innermost.block.label());
+        }
+        let label = label as usize;
+        let count = self.outer.len();
+        if label > count {
+            return None;
+        }
+        Some(self.outer[count - label].block.label())
+    }
+
+    /// Opens a block, without operands.
+    pub fn open(&mut self, block: Block) -> Result<(), AllocError>
+        ensures operands { OnOk result (self.new.operands ≡ no_operands) }
+        ensures block { OnOk result (self.new.enclosing.block ≡ block) }
+        ensures outer { OnOk result (self.new.enclosing.outer ≡ record { block = self.old.enclosing.block; operands = self.old.operands } ∷ self.old.enclosing.outer) }
+    {
+        self.outer.push(self.innermost)?;
+        self.innermost = Frame {
+            block,
+            own: 0,
+            marked: false,
+        };
+        Ok(())
+    }
+
+    /// Closes the innermost block, which is to have no operands, and says whether one is around it.
+    pub fn close(&mut self) -> bool
+        requires { is_empty self.old.operands.types ≡ true }
+        ensures { Closes self.old.enclosing.outer result self.new }
+    {
+        match self.outer.pop() {
+            None => false,
+            Some(frame) => {
+                self.innermost = frame;
+                true
+            }
+        }
+    }
+
+    /// Begins another block in place of the innermost one, which is to have no operands.
+    pub fn replace(&mut self, block: Block)
+        requires { is_empty self.old.operands.types ≡ true }
+        ensures operands { self.new.operands ≡ no_operands }
+        ensures block { self.new.enclosing.block ≡ block }
+        ensures outer { self.new.enclosing.outer ≡ self.old.enclosing.outer }
+    {
+        self.innermost.block = block;
+        self.innermost.marked = false;
+    }
+
+    /// The innermost block.
+    pub fn block(&self) -> Block
+        ensures { result ≡ self.now.enclosing.block }
+    {
+        self.innermost.block
+    }
+
+    /// Goes on behind the next instruction of the innermost block.
+    pub fn advance(&mut self)
+        requires { self.old.enclosing.block.next + 1 < 2 ^ 64 }
+        ensures operands { self.new.operands ≡ self.old.operands }
+        ensures enclosing { self.new.enclosing ≡ advanced self.old.enclosing }
+    {
+        self.innermost.block.next += 1;
+    }
+}
+
+impl Block {
+    /// What a branch to the block takes: to a loop nothing, since it goes to its start.
+    fn label(self) -> Option<ValType>
+        ensures { result ≡ label_of self.kind self.of }
+    {
+        match self.kind {
+            Kind::Loop => None,
+            Kind::Plain | Kind::FirstArm(_) => self.of,
+        }
+    }
+}

@@ -1,0 +1,15 @@
+//! Which modules are typed: WebAssembly Core 1.0, chapter 3, and the threads proposal.
+#![tactic(auto)]
+
+mod blocks;
+mod body;
+mod context;
+mod imported;
+mod instruction;
+mod module;
+mod rules;
+#[cfg(test)]
+mod tests;
+mod valid;
+
+pub use valid::{Valid, ValidateFault, validate};

@@ -1,0 +1,208 @@
+// Whether a module is typed: WebAssembly Core 1.0, section 3.4.
+ghost use Rattle.std.specs.Prelude.{◌≡◌, IfOk, nat_lt, length, slice_get};
+ghost use Rattle.std.specs.List.{list_all};
+ghost use Rattle.wasm_ast.specs.TypingModule.{context_of, globals_of, is_global, is_element, is_segment, is_function_of, are_functions, is_declared, is_defined, is_typed};
+ghost use Rattle.wasm_validate.specs.Context.{context};
+
+use super::context::{Context, ends};
+use super::imported;
+use super::rules::{are_different, are_function_types, are_imports, are_memories, are_tables};
+use std::alloc::{AllocError, Global};
+use wasm_ast::{Code, Element, GlobalVar, Module, Segment, ValType};
+
+/// Whether a module is typed (3.4.10).
+pub fn is_module(alloc: Global, module: &Module) -> Result<bool, AllocError>
+    ensures { IfOk result (λ typed. typed ≡ is_typed module.now) }
+{
+    let imports = module.imports.as_slice();
+    let functions = imported::functions(alloc, imports, module.functions.as_slice())?;
+    let imported = imported::globals(alloc, imports)?;
+    let globals = imported::all_globals(alloc, imported.as_slice(), module.globals.as_slice())?;
+    let context = Context {
+        types: module.types.as_slice(),
+        functions: functions.as_slice(),
+        tables: imported::tables(imports) + module.tables.as_slice().len(),
+        memories: imported::memories(imports) + module.memories.as_slice().len(),
+        globals: globals.as_slice(),
+        params: &[],
+        locals: &[],
+        ends: &[],
+        result: None,
+    };
+    context.is_typed(alloc, imported.as_slice(), module)
+}
+
+impl Context<'_> {
+    /// Whether the module of this context is typed.
+    fn is_typed(
+        &self,
+        alloc: Global,
+        imported: &[(ValType, bool)],
+        module: &Module,
+    ) -> Result<bool, AllocError>
+        requires context { context self.now ≡ context_of module.now }
+        requires imported { imported.now ≡ globals_of module.now.imports }
+        ensures { IfOk result (λ typed. typed ≡ is_typed module.now) }
+    {
+        if !self.is_declared(module) {
+            return Ok(false);
+        }
+        self.is_defined(alloc, imported, module)
+    }
+
+    /// Whether what the module declares without instructions is right.
+    fn is_declared(&self, module: &Module) -> bool
+        ensures { result ≡ is_declared (context self.now) module.now }
+    {
+        are_function_types(module.types.as_slice())
+            && are_imports(module)
+            && are_tables(module.tables.as_slice())
+            && are_memories(module.memories.as_slice())
+            && self.tables <= 1
+            && self.memories <= 1
+            && self.are_exports(module.exports.as_slice())
+            && self.is_start(module.start)
+    }
+
+    /// Whether what the module defines by instructions is right, and its exports have different names.
+    fn is_defined(
+        &self,
+        alloc: Global,
+        imported: &[(ValType, bool)],
+        module: &Module,
+    ) -> Result<bool, AllocError>
+        ensures { IfOk result (λ defined. defined ≡ is_defined (context self.now) imported.now module.now) }
+    {
+        if !are_different(alloc, module.exports.as_slice())? {
+            return Ok(false);
+        }
+        if !self.are_globals(alloc, imported, module.globals.as_slice())? {
+            return Ok(false);
+        }
+        if !self.are_elements(alloc, module.elements.as_slice())? {
+            return Ok(false);
+        }
+        if !self.are_segments(alloc, module.segments.as_slice())? {
+            return Ok(false);
+        }
+        self.are_functions(alloc, module.functions.as_slice(), module.codes.as_slice())
+    }
+
+    /// Whether the first value of each global is a constant of its type (3.4.4).
+    fn are_globals(
+        &self,
+        alloc: Global,
+        imported: &[(ValType, bool)],
+        globals: &[GlobalVar],
+    ) -> Result<bool, AllocError>
+        ensures { IfOk result (λ fit. fit ≡ list_all (is_global (context self.now) imported.now) globals.now) }
+    {
+        for global in globals {
+            if !self.is_constant(alloc, imported, global.of, &global.init)? {
+                return Ok(false);
+            }
+        }
+        Ok(true)
+    }
+
+    /// Whether all are indices of functions.
+    fn are_indices(&self, functions: &[u32]) -> bool
+        ensures { result ≡ list_all (λ x. nat_lt x (length self.now.functions.now)) functions.now }
+    {
+        for function in functions {
+            if *function as usize >= self.functions.len() {
+                return false;
+            }
+        }
+        true
+    }
+
+    /// Whether a table may have such a segment (3.4.5).
+    fn is_element(&self, alloc: Global, element: &Element) -> Result<bool, AllocError>
+        ensures { IfOk result (λ fits. fits ≡ is_element (context self.now) element.now) }
+    {
+        if element.table as usize >= self.tables {
+            return Ok(false);
+        }
+        if !self.is_constant(alloc, self.globals, ValType::I32, &element.offset)? {
+            return Ok(false);
+        }
+        Ok(self.are_indices(element.functions.as_slice()))
+    }
+
+    /// Whether tables may have such segments.
+    fn are_elements(&self, alloc: Global, elements: &[Element]) -> Result<bool, AllocError>
+        ensures { IfOk result (λ fit. fit ≡ list_all (is_element (context self.now)) elements.now) }
+    {
+        for element in elements {
+            if !self.is_element(alloc, element)? {
+                return Ok(false);
+            }
+        }
+        Ok(true)
+    }
+
+    /// Whether a memory may have such a segment (3.4.6).
+    fn is_segment(&self, alloc: Global, segment: &Segment) -> Result<bool, AllocError>
+        ensures { IfOk result (λ fits. fits ≡ is_segment (context self.now) segment.now) }
+    {
+        if segment.memory as usize >= self.memories {
+            return Ok(false);
+        }
+        self.is_constant(alloc, self.globals, ValType::I32, &segment.offset)
+    }
+
+    /// Whether memories may have such segments.
+    fn are_segments(&self, alloc: Global, segments: &[Segment]) -> Result<bool, AllocError>
+        ensures { IfOk result (λ fit. fit ≡ list_all (is_segment (context self.now)) segments.now) }
+    {
+        for segment in segments {
+            if !self.is_segment(alloc, segment)? {
+                return Ok(false);
+            }
+        }
+        Ok(true)
+    }
+
+    /// Whether a function of the type of that index may have such locals and instructions (3.4.1).
+    fn is_function(&self, alloc: Global, of: u32, code: &Code) -> Result<bool, AllocError>
+        ensures { IfOk result (λ fits. fits ≡ is_function_of (context self.now) code.now (slice_get self.now.types.now of)) }
+    {
+        let Some(of) = self.types.get(of as usize) else {
+            return Ok(false);
+        };
+        let ends = ends(alloc, code.locals.groups())?;
+        let context = Context {
+            types: self.types,
+            functions: self.functions,
+            tables: self.tables,
+            memories: self.memories,
+            globals: self.globals,
+            params: of.params.as_slice(),
+            locals: code.locals.groups(),
+            ends: ends.as_slice(),
+            result: of.results.as_slice().first().copied(),
+        };
+        context.is_body(alloc, &code.body)
+    }
+
+    /// Whether each function of the module may have its locals and instructions.
+    fn are_functions(
+        &self,
+        alloc: Global,
+        functions: &[u32],
+        codes: &[Code],
+    ) -> Result<bool, AllocError>
+        ensures { IfOk result (λ fit. fit ≡ are_functions (context self.now) functions.now codes.now) }
+    {
+        if functions.len() != codes.len() {
+            return Ok(false);
+        }
+        for i in 0..functions.len() {
+            if !self.is_function(alloc, functions[i], &codes[i])? {
+                return Ok(false);
+            }
+        }
+        Ok(true)
+    }
+}
