@@ -12,7 +12,7 @@ use Rattle.runner.specs.Process.{Process}
 use Rattle.runner.specs.Asked.{Asked}
 use Rattle.runner.specs.Apply.{apply, placed}
 use Rattle.runner.specs.World.{World, Replies, Leads}
-use Rattle.runner.specs.Boot.{Boot, Loads, boot_world}
+use Rattle.runner.specs.Boot.{Boot, boot_world}
 use Rattle.runner.specs.Run.{RunFrom, RunsTo, EachReply, StopsOf, bears, InOrder}
 use Rattle.runner.proofs.Maps.{get-placed_same, get-placed_other}
 use Rattle.runner.proofs.Determined.{loads_same}

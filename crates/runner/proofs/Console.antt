@@ -1,16 +1,16 @@
 -- A write over the first descriptors.
-use Rattle.std.proofs.Common.{◌≡◌, ◌≢◌, ◌⊎◌, inl, inr, ℕ, List, [], Bool, true, false, Option, Some, None, cond, if◌then◌else◌, nat_eq, slice_index, option_and_then, refl, sym, ap, subst, ◌∙◌, arith}
+use Rattle.std.proofs.Common.{◌≡◌, ◌≢◌, inl, inr, ℕ, List, [], true, false, Option, Some, None, if◌then◌else◌, nat_eq, slice_index, option_and_then, refl, sym, ap, ◌∙◌, arith}
 use Rattle.std.proofs.lemmas.Bool.{eq-eqb}
 use Rattle.std.proofs.lemmas.Bool.Decides.{eqb_tells}
 use Rattle.std.specs.Ordering.{nat_cmp}
 use Rattle.std.proofs.lemmas.Cmp.{nat_cmp_total}
-use Rattle.std.specs.FinMap.{FinMap, get, insert, empty, get-empty, nat_cmp-IsAntisymmetric, IsAntisymmetric}
+use Rattle.std.specs.FinMap.{FinMap, get, insert, empty, get-empty, nat_cmp-IsAntisymmetric}
 use Rattle.wx_types.specs.declared.requests.Request.{Request}
-use Rattle.wx_types.specs.declared.entries.Place.TheVariants.{Nowhere, Output as OutputPlace, Error as ErrorPlace}
+use Rattle.wx_types.specs.declared.entries.Place.TheVariants.{Nowhere}
 use Rattle.wx_types.specs.Errno.{errno_number}
-use Rattle.wx_types.specs.declared.errors.Errno.TheVariants.{Badf, Isdir, Notcapable}
-use Rattle.runner.specs.Kernel.{Kernel, ThreadId, thread_cmp, Kind, Input, Output, Error, Dir, Description}
-use Rattle.runner.specs.Answer.{Answer, answer_fd_write, unless_refused, over_description, description_of, answer_write, replied, refusal}
+use Rattle.wx_types.specs.declared.errors.Errno.TheVariants.{Badf}
+use Rattle.runner.specs.Kernel.{Kernel, ThreadId, thread_cmp, Input, Output, Error, Dir, Description}
+use Rattle.runner.specs.Answer.{Answer, answer_fd_write, over_description, description_of, answer_write, replied, refusal}
 use Rattle.runner.specs.Boot.{first_descriptors, first_descriptions}
 use Rattle.runner.specs.OneProcess.{WriteReply, write_reply}
 use Rattle.runner.proofs.Maps.{get-insert_same, get-insert_other, thread_cmp_total, thread_cmp_exact}

@@ -1,18 +1,14 @@
 -- A history determines its worlds.
-use Rattle.std.proofs.Common.{◌≡◌, ◌<◌, ◌≤◌, ◌-◌, ◌⊎◌, inl, inr, ℕ, zero, suc, ◌+◌, List, [], ◌∷◌, Option, Some, None, min, refl, sym, ap, subst, ◌∙◌, arith}
+use Rattle.std.proofs.Common.{◌≡◌, ◌<◌, ◌≤◌, ◌-◌, inl, inr, ℕ, suc, ◌+◌, List, [], ◌∷◌, Option, Some, None, min, sym, ap, subst, ◌∙◌, arith}
 use Rattle.std.proofs.lemmas.Bool.{cases_order}
-use Rattle.std.specs.Ordering.{nat_cmp}
-use Rattle.std.specs.FinMap.{FinMap, get, insert}
+use Rattle.std.specs.FinMap.{insert}
 use Rattle.wx_types.specs.declared.requests.Request.{Request}
 use Rattle.wx_types.specs.declared.entries.Entry.{Entry}
-use Rattle.wx_types.specs.declared.entries.Outcome.{Outcome}
 use Rattle.wasm_decode.specs.ThinModule.{ThinModule}
 use Rattle.wasm_decode.specs.ThinGrammar.{SpellsThin}
-use Rattle.linear_memory.specs.LinearMemory.{LinearMemory}
-use Rattle.interp.specs.GuestThread.{GuestThread}
-use Rattle.interp.specs.Step.{Stepped, step, after}
+use Rattle.interp.specs.Step.{step, after}
 use Rattle.runner.specs.Process.{Process}
-use Rattle.runner.specs.Asked.{Asked, EndsSlice, fuel_left, request_at}
+use Rattle.runner.specs.Asked.{Asked, fuel_left, request_at}
 use Rattle.runner.specs.Kernel.{Kernel, End}
 use Rattle.runner.specs.Answer.{Answer, answer}
 use Rattle.runner.specs.Apply.{apply, placed}

@@ -1,5 +1,5 @@
 -- Runs of steps, cut in two.
-use Rattle.std.proofs.Common.{◌≡◌, ◌<◌, ◌≤◌, ◌-◌, ℕ, zero, suc, ◌+◌, List, [], ◌∷◌, Option, Some, None, min, refl, sym, ap, subst, ◌∙◌, arith, zero-add}
+use Rattle.std.proofs.Common.{◌≡◌, ℕ, zero, suc, ◌+◌, Option, Some, sym, ap, ◌∙◌, arith, zero-add}
 use Rattle.wasm_decode.specs.ThinModule.{ThinModule}
 use Rattle.linear_memory.specs.LinearMemory.{LinearMemory}
 use Rattle.interp.specs.GuestThread.{GuestThread}

@@ -1,15 +1,14 @@
 -- A turn of the one thread leads on.
-use Rattle.std.proofs.Common.{◌≡◌, ◌≤◌, ◌-◌, ◌+◌, ℕ, List, [], ◌∷◌, Bool, true, false, Option, Some, None, IsSome, IfSome, slice_get, slice_index, length, min, refl, sym, ap, subst, ◌∙◌, arith}
+use Rattle.std.proofs.Common.{◌≡◌, ◌≤◌, ◌-◌, ◌+◌, ℕ, List, [], ◌∷◌, true, Option, Some, None, slice_get, slice_index, length, min, refl, sym, ap, subst, ◌∙◌, arith}
 use Rattle.std.specs.Option.{option_map}
-use Rattle.std.specs.FinMap.{FinMap, get, insert, empty}
+use Rattle.std.specs.FinMap.{FinMap, get, insert}
 use Rattle.wx_types.specs.declared.requests.Request.{Request}
 use Rattle.wx_types.specs.declared.entries.Entry.{Entry}
 use Rattle.wx_types.specs.declared.entries.Outcome.TheVariants.{Ended as EndedOutcome}
 use Rattle.wasm_decode.specs.ThinModule.{ThinModule, takes}
 use Rattle.wasm_decode.specs.declared.thin.ThinImport.{ThinImport}
 use Rattle.wasm_decode.specs.declared.thin.ThinImport.TheVariants.{ProcExit, FdWrite}
-use Rattle.interp.specs.declared.thread.Stop.{Stop}
-use Rattle.interp.specs.declared.thread.Stop.TheVariants.{Spent, Call, Finished as Returned}
+use Rattle.interp.specs.declared.thread.Stop.TheVariants.{Call, Finished as Returned}
 use Rattle.linear_memory.specs.LinearMemory.{LinearMemory}
 use Rattle.interp.specs.GuestThread.{GuestThread, arguments, answered}
 use Rattle.interp.specs.Step.{Stepped, Next, AtCall, Finished, Stuck, step, after}
@@ -26,9 +25,9 @@ use Rattle.std.proofs.lemmas.Cmp.{nat_cmp_total}
 use Rattle.std.specs.Ordering.{nat_cmp}
 use Rattle.interp.specs.Left.{steps_left}
 use Rattle.runner.specs.Kernel.{Kernel, End, Exited, Handed, Fresh}
-use Rattle.runner.specs.Answer.{Answer, answer, Answers, risen, end_process}
-use Rattle.runner.specs.World.{World, Replies, Leads}
-use Rattle.runner.specs.OneProcess.{StandsAt, LeadsOn, default_slice, default_fuel, end_entry, LeadsToEnd, WriteReply, write_reply, write_entry, reply_of, memory_after}
+use Rattle.runner.specs.Answer.{answer, risen, end_process}
+use Rattle.runner.specs.World.{World, Replies}
+use Rattle.runner.specs.OneProcess.{StandsAt, LeadsOn, default_slice, default_fuel, end_entry, LeadsToEnd, WriteReply, write_entry, reply_of, memory_after}
 
 -- a thread that stops at a call ends its slice
 ends_call : (ran most i : ℕ) (s : Stepped) → StopsAs s (Call i) → EndsSlice ran most s

@@ -12,10 +12,10 @@ use Rattle.interp.specs.Left.{steps_left}
 use Rattle.std.specs.FinMap.{empty}
 use Rattle.runner.specs.declared.one.Why.{Why}
 use Rattle.runner.specs.declared.one.Why.TheVariants.{Exited as ExitedWhy, Memory as MemoryWhy}
-use Rattle.runner.specs.Kernel.{Kernel, End, Exited, Handed, Fresh}
+use Rattle.runner.specs.Kernel.{End, Exited, Handed, Fresh}
 use Rattle.runner.specs.World.{World, Leads}
-use Rattle.runner.specs.Boot.{Boot, Loads, boot_world, first_process, first_memory}
-use Rattle.runner.specs.Run.{RunFrom, RunsTo, Run, EndsAs}
+use Rattle.runner.specs.Boot.{Boot, boot_world, first_process, first_memory}
+use Rattle.runner.specs.Run.{RunFrom, RunsTo}
 use Rattle.runner.specs.Weight.{weight, weight_limit}
 use Rattle.runner.specs.Ran.{Ran}
 use Rattle.runner.specs.OneProcess.{StandsAt, LeadsToEnd, LeadsOn, Begins}

@@ -1,5 +1,5 @@
 -- The kernel's answer to the request that ends a slice.
-use Rattle.std.specs.Prelude.{◌≡◌, ℕ, ◌+◌, ◌-◌, ◌^◌, Bool, true, List, [], Option, Some, None, option_and_then, min, nat_eq, slice_index, if◌then◌else◌}
+use Rattle.std.specs.Prelude.{◌≡◌, ℕ, ◌+◌, ◌-◌, ◌^◌, true, List, [], Option, Some, None, option_and_then, min, nat_eq, slice_index, if◌then◌else◌}
 use Rattle.std.specs.FinMap.{get, insert}
 use Rattle.wx_types.specs.declared.requests.Request.{Request}
 use Rattle.wx_types.specs.declared.entries.Outcome.{Outcome}
@@ -9,7 +9,7 @@ use Rattle.wx_types.specs.declared.entries.Place.TheVariants.{Nowhere, Output as
 use Rattle.wx_types.specs.Errno.{errno_number}
 use Rattle.wx_types.specs.declared.errors.Errno.TheVariants.{Badf, Isdir, Notcapable}
 use Rattle.wasix_abi.specs.Requests.{last_return, fd_write, proc_exit}
-use Rattle.runner.specs.Kernel.{Kernel, End, Exited, ProcessState, Live, Over, ThreadState, Handed, Ended, Fresh, Kind, Input, Output, Error, Dir, Description}
+use Rattle.runner.specs.Kernel.{Kernel, End, Exited, Over, Handed, Ended, Fresh, Kind, Input, Output, Error, Dir, Description}
 
 pub record Answer : Type 0 where
   pub outcome : Outcome

@@ -1,6 +1,5 @@
 -- The slice of a thread, and the request at which it ends.
-use Rattle.std.specs.Prelude.{◌≡◌, ℕ, ◌+◌, ◌-◌, ◌≤◌, ◌∷◌, [], List, Option, Some, None, Bool, nat_eq, min, slice_get, if◌then◌else◌}
-use Rattle.std.specs.Ordering.{nat_cmp}
+use Rattle.std.specs.Prelude.{◌≡◌, ℕ, ◌+◌, ◌-◌, ◌≤◌, ◌∷◌, [], Option, Some, None, Bool, nat_eq, min, slice_get, if◌then◌else◌}
 use Rattle.std.specs.FinMap.{get, insert}
 use Rattle.std.specs.Option.{option_map}
 use Rattle.wx_types.specs.declared.requests.Request.{Request}

@@ -1,5 +1,5 @@
 -- The world: the kernel, the processes and the slice, and how an entry of the history leads from one world to the next.
-use Rattle.std.specs.Prelude.{◌≡◌, ℕ, Option, Some, None}
+use Rattle.std.specs.Prelude.{◌≡◌, ℕ, Some, None}
 use Rattle.std.specs.Ordering.{nat_cmp}
 use Rattle.std.specs.FinMap.{FinMap, get}
 use Rattle.wx_types.specs.declared.requests.Request.{Request}

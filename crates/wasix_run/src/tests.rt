@@ -4,7 +4,6 @@ use super::*;
 use runner::journal::Journal;
 use std::alloc::{AllocError, Global};
 use std::test::Fail;
-use wasm_decode::ThinFault;
 use wx_types::{Bytes, Entry, MemShelf, MemSink, MemSource, Outcome};
 
 // a module that imports proc_exit and exports _start, up to its code section
@@ -77,6 +76,36 @@ fn is_end(entry: &Entry, ran: u64, call: u16) -> bool {
         && entry.signal == 0
 }
 
+fn exited(ended: &MemEnded, code: u32) -> bool {
+    matches!(ended.reason, Reason::Exited(exit) if exit == code)
+}
+
+// the status, how many entries the journal has, and what each sink took
+fn left(ended: &MemEnded, status: u8, entries: usize, out: &[u8], err: &[u8]) -> bool {
+    ended.status == status
+        && ended.journal.len() == entries
+        && ended.out.taken() == out
+        && ended.err.taken() == err
+}
+
+// the program with this code section exits with the code in one entry, and prints nothing
+fn exits(
+    alloc: Global,
+    code: &[u8],
+    exit: u32,
+    status: u8,
+    ran: u64,
+    call: u16,
+) -> Result<bool, AllocError> {
+    let file = module(alloc, code)?;
+    let ended = one(alloc, file.as_slice())?;
+    Ok(
+        exited(&ended, exit)
+            && left(&ended, status, 1, b"", b"")
+            && ends_at_once(&ended.journal, ran, call),
+    )
+}
+
 #[test]
 fn programs_exit(rt: HostRuntime) -> Result<(), Fail> {
     let alloc = rt.alloc();
@@ -98,71 +127,76 @@ fn programs_exit(rt: HostRuntime) -> Result<(), Fail> {
         (b"\x0a\x04\x01\x02\0\x0b", 0, 0, 1, 4),
     ];
     for (code, exit, status, ran, call) in table {
-        let file = module(alloc, code)?;
-        let ended = one(alloc, file.as_slice())?;
-        assert!(rt; matches!(ended.reason, Reason::Exited(exit_code) if exit_code == exit));
-        assert_eq!(rt; ended.status, status);
-        assert!(rt; ends_at_once(&ended.journal, ran, call));
-        assert!(rt; ended.out.taken().is_empty());
-        assert!(rt; ended.err.taken().is_empty());
+        assert!(rt; exits(alloc, code, exit, status, ran, call)?);
     }
     Ok(())
+}
+
+// the file is refused with this status and this text
+fn refuses(alloc: Global, file: &[u8], status: u8, text: &[u8]) -> Result<bool, AllocError> {
+    let ended = one(alloc, file)?;
+    Ok(left(&ended, status, 0, b"", text))
 }
 
 #[test]
 fn what_is_no_program_is_refused(rt: HostRuntime) -> Result<(), Fail> {
     let alloc = rt.alloc();
-    // the file, and whether it begins as a module does
-    let table: [(&[u8], bool); 5] = [
-        (b"", false),
-        (b"\0asm\x01\0\0", false),
-        (b"\0asn\x01\0\0\0", false),
-        (b"\0asm\x01\0\0\0", true),
-        (HEAD, true),
+    let table: [(&[u8], &[u8]); 5] = [
+        (b"", b"wasix: bad program\n"),
+        (b"\0asm\x01\0\0", b"wasix: bad program\n"),
+        (b"\0asn\x01\0\0\0", b"wasix: bad program\n"),
+        (b"\0asm\x01\0\0\0", b"wasix: not built yet\n"),
+        (HEAD, b"wasix: not built yet\n"),
     ];
-    for (file, begins) in table {
-        let ended = one(alloc, file)?;
-        match ended.reason {
-            Reason::BadProgram(ThinFault::NotYet) => assert!(rt; begins),
-            Reason::BadProgram(ThinFault::Malformed) => assert!(rt; !begins),
-            _ => assert!(rt; false),
-        }
-        assert_eq!(rt; ended.status, 126);
-        assert!(rt; ended.journal.is_empty());
+    for (file, text) in table {
+        assert!(rt; refuses(alloc, file, 126, text)?);
     }
     Ok(())
 }
 
 #[test]
-fn words_and_files_are_refused_in_their_order(rt: HostRuntime) -> Result<(), Fail> {
+fn files_of_the_limit_are_read(rt: HostRuntime) -> Result<(), Fail> {
     let alloc = rt.alloc();
-    let no_command: [&[&str]; 4] = [&[], &["one"], &["one", "f", "f"], &["two", "f"]];
-    for words in no_command {
-        let ended = run(alloc, words, b"", &[])?;
-        assert!(rt; matches!(ended.reason, Reason::Usage));
-        assert_eq!(rt; ended.status, 64);
-        let usage = b"usage: wasix one|run|asm|pack|kit|gen|trace\n";
-        assert!(rt; ended.err.taken() == usage.as_slice());
-        assert!(rt; ended.journal.is_empty());
-    }
+    let mut file = vec![in alloc; 0u8; 4_194_304]?;
+    assert!(rt; refuses(alloc, file.as_slice(), 126, b"wasix: bad program\n")?);
+    file.push(0)?;
+    assert!(rt; refuses(alloc, file.as_slice(), 66, b"wasix: file too long\n")?);
+    Ok(())
+}
 
-    let missing = run(alloc, &["one", "g"], b"", &[])?;
-    assert!(rt; matches!(missing.reason, Reason::ShelfFault));
-    assert_eq!(rt; missing.status, 66);
-    assert!(rt; missing.err.taken() == b"wasix: file fault\n".as_slice());
-    let failed = run(alloc, &["one", "f"], HEAD, &[1])?;
-    assert!(rt; matches!(failed.reason, Reason::ShelfFault));
-    assert!(rt; failed.journal.is_empty());
+// the words are no command
+fn is_usage(alloc: Global, words: &[&str]) -> Result<bool, AllocError> {
+    let ended = run(alloc, words, b"", &[])?;
+    Ok(left(
+        &ended,
+        64,
+        0,
+        b"",
+        b"usage: wasix one|run|asm|pack|kit|gen|trace\n",
+    ))
+}
 
-    let mut long = vec![in alloc; 0u8; 4_194_304]?;
-    let zeros = one(alloc, long.as_slice())?;
-    assert!(rt; matches!(zeros.reason, Reason::BadProgram(ThinFault::Malformed)));
-    long.push(0)?;
-    let longer = one(alloc, long.as_slice())?;
-    assert!(rt; matches!(longer.reason, Reason::TooLong));
-    assert_eq!(rt; longer.status, 66);
-    assert!(rt; longer.err.taken() == b"wasix: file too long\n".as_slice());
-    assert!(rt; longer.journal.is_empty());
+#[test]
+fn other_words_are_no_command(rt: HostRuntime) -> Result<(), Fail> {
+    let alloc = rt.alloc();
+    assert!(rt; is_usage(alloc, &[])?);
+    assert!(rt; is_usage(alloc, &["one"])?);
+    assert!(rt; is_usage(alloc, &["one", "f", "f"])?);
+    assert!(rt; is_usage(alloc, &["two", "f"])?);
+    Ok(())
+}
+
+// the file of this name can't be read from a shelf that fails at these calls
+fn is_shelf_fault(alloc: Global, name: &str, fails: &[u64]) -> Result<bool, AllocError> {
+    let ended = run(alloc, &["one", name], HEAD, fails)?;
+    Ok(left(&ended, 66, 0, b"", b"wasix: file fault\n"))
+}
+
+#[test]
+fn shelves_fail(rt: HostRuntime) -> Result<(), Fail> {
+    let alloc = rt.alloc();
+    assert!(rt; is_shelf_fault(alloc, "g", &[])?);
+    assert!(rt; is_shelf_fault(alloc, "f", &[1])?);
     Ok(())
 }
 
@@ -203,70 +237,89 @@ fn ends_second(journal: &Journal) -> bool {
     }
 }
 
+// A write to the descriptor gives this error number, in an entry with so many bytes, and these bytes to the sinks.
+fn writes(
+    alloc: Global,
+    fd: u8,
+    errno: u16,
+    len: usize,
+    weight: u64,
+    out: &[u8],
+    err: &[u8],
+) -> Result<bool, AllocError> {
+    let file = writer(alloc, fd)?;
+    let ended = one(alloc, file.as_slice())?;
+    Ok(
+        exited(&ended, 0)
+            && left(&ended, 0, 2, out, err)
+            && replies(&ended.journal, errno, len)
+            && ends_second(&ended.journal)
+            && ended.journal.weight() == weight,
+    )
+}
+
 #[test]
 fn writes_are_printed(rt: HostRuntime) -> Result<(), Fail> {
     let alloc = rt.alloc();
-    // the descriptor; the error number, the bytes of the reply, and what each stream takes
-    let table: [(u8, u16, usize, &[u8], &[u8]); 5] = [
-        (0, 76, 0, b"", b""),
-        (1, 0, 3, b"hi\n", b""),
-        (2, 0, 3, b"", b"hi\n"),
-        (3, 31, 0, b"", b""),
-        (4, 8, 0, b"", b""),
-    ];
-    for (fd, errno, len, out, err) in table {
-        let file = writer(alloc, fd)?;
-        let ended = one(alloc, file.as_slice())?;
-        assert!(rt; matches!(ended.reason, Reason::Exited(0)));
-        assert_eq!(rt; ended.status, 0);
-        assert!(rt; replies(&ended.journal, errno, len));
-        assert!(rt; ends_second(&ended.journal));
-        assert_eq!(rt; ended.journal.weight(), 128 + len as u64);
-        assert!(rt; ended.out.taken() == out);
-        assert!(rt; ended.err.taken() == err);
-    }
+    assert!(rt; writes(alloc, 0, 76, 0, 128, b"", b"")?);
+    assert!(rt; writes(alloc, 1, 0, 3, 131, b"hi\n", b"")?);
+    assert!(rt; writes(alloc, 2, 0, 3, 131, b"", b"hi\n")?);
+    assert!(rt; writes(alloc, 3, 31, 0, 128, b"", b"")?);
+    assert!(rt; writes(alloc, 4, 8, 0, 128, b"", b"")?);
     Ok(())
+}
+
+// An output that takes single bytes and fails at this call ends with these bytes, and nothing is written to the errors.
+fn is_write_fault(alloc: Global, call: u64, front: &[u8]) -> Result<bool, AllocError> {
+    let file = writer(alloc, 1)?;
+    let out = sink(alloc, 1, &[call])?;
+    let err = sink(alloc, 64, &[])?;
+    let ended = run_over(alloc, &["one", "f"], file.as_slice(), &[], out, err)?;
+    Ok(left(&ended, 74, 2, front, b""))
+}
+
+// errors that take eight bytes and then fail
+fn is_text_fault(alloc: Global) -> Result<bool, AllocError> {
+    let out = sink(alloc, 64, &[])?;
+    let err = sink(alloc, 8, &[2])?;
+    let ended = run_over(alloc, &["none"], b"", &[], out, err)?;
+    Ok(left(&ended, 74, 0, b"", b"usage: w"))
 }
 
 #[test]
 fn sinks_fail_in_their_midst(rt: HostRuntime) -> Result<(), Fail> {
     let alloc = rt.alloc();
-    let file = writer(alloc, 1)?;
-    // the call of a sink of single bytes that fails, and what it took before
-    let table: [(u64, &[u8]); 3] = [(1, b""), (2, b"h"), (3, b"hi")];
-    for (call, front) in table {
-        let out = sink(alloc, 1, &[call])?;
-        let err = sink(alloc, 64, &[])?;
-        let ended = run_over(alloc, &["one", "f"], file.as_slice(), &[], out, err)?;
-        assert!(rt; matches!(ended.reason, Reason::WriteFault));
-        assert_eq!(rt; ended.status, 74);
-        assert!(rt; ended.out.taken() == front);
-        assert!(rt; ended.err.taken().is_empty());
-        assert_eq!(rt; ended.journal.len(), 2);
-    }
-
-    let out = sink(alloc, 64, &[])?;
-    let err = sink(alloc, 8, &[2])?;
-    let ended = run_over(alloc, &["none"], b"", &[], out, err)?;
-    assert!(rt; matches!(ended.reason, Reason::WriteFault));
-    assert!(rt; ended.err.taken() == b"usage: w".as_slice());
+    assert!(rt; is_write_fault(alloc, 1, b"")?);
+    assert!(rt; is_write_fault(alloc, 2, b"h")?);
+    assert!(rt; is_write_fault(alloc, 3, b"hi")?);
+    assert!(rt; is_text_fault(alloc)?);
     Ok(())
 }
 
-#[test]
-fn whole_memory_is_written_fifteen_times(rt: HostRuntime) -> Result<(), Fail> {
-    let alloc = rt.alloc();
+// the module that writes the whole of its one page fifteen times
+fn whole_writer(alloc: Global) -> Result<Vec<u8>, AllocError> {
     let mut file = Vec::from_slice(alloc, WRITER)?;
     file.extend_from_slice(b"\x0a\xaa\x01\x01\xa7\x01\0")?;
     for _ in 0..15 {
         file.extend_from_slice(b"\x41\x01\x41\0\x41\x01\x41\x10\x10\0\x1a")?;
     }
-    // one buffer: all of the page
     file.extend_from_slice(b"\x0b\x0b\x0e\x01\0\x41\0\x0b\x08\0\0\0\0\0\0\x01\0")?;
+    Ok(file)
+}
+
+fn whole_writes(alloc: Global) -> Result<bool, AllocError> {
+    let file = whole_writer(alloc)?;
     let ended = one(alloc, file.as_slice())?;
-    assert!(rt; matches!(ended.reason, Reason::Exited(0)));
-    assert_eq!(rt; ended.journal.len(), 16);
-    assert_eq!(rt; ended.out.taken().len(), 15 * 65536);
-    assert_eq!(rt; ended.journal.weight(), 16 * 64 + 15 * 65536);
+    Ok(
+        exited(&ended, 0)
+            && ended.journal.len() == 16
+            && ended.out.taken().len() == 983_040
+            && ended.journal.weight() == 984_064,
+    )
+}
+
+#[test]
+fn whole_memory_is_written_fifteen_times(rt: HostRuntime) -> Result<(), Fail> {
+    assert!(rt; whole_writes(rt.alloc())?);
     Ok(())
 }

@@ -1,4 +1,4 @@
-use Rattle.std.proofs.Common.{◌≡◌, ◌≤◌, ◌<◌, ◌+◌, ◌*◌, length, take, fold, get_or, All, List, ℕ, false, arith, sym, subst, ap, ◌∙◌}
+use Rattle.std.proofs.Common.{◌≡◌, take, fold, All, List, ℕ, false, arith, sym, subst, ap, ◌∙◌}
 use Rattle.std.proofs.lemmas.List.Elements.{All-get_or}
 use Rattle.linear_memory.specs.LinearMemory.{LinearMemory, zero_pages}
 use Rattle.wasm_decode.specs.Segment.{Segment}

@@ -1,11 +1,10 @@
-use Rattle.std.proofs.Common.{◌≡◌, ◌≤◌, ◌<◌, ◌+◌, ◌*◌, ◌∷◌, ◌++◌, [], List, ℕ, Option, Some, None, inl, inr, refl, arith, sym, subst, ap, ◌∙◌}
+use Rattle.std.proofs.Common.{◌≡◌, ◌≤◌, ◌+◌, List, inl, inr, refl, arith, sym, subst, ap, ◌∙◌}
 use Rattle.wx_types.specs.declared.entries.Entry.{Entry}
 use Rattle.wx_types.specs.Entry.{entry_weight}
 use Rattle.interp.specs.GuestThread.{GuestThread, thread_of}
-use Rattle.interp.specs.Left.{steps_left, calls_left}
 use Rattle.runner.specs.declared.one.Why.{Why}
 use Rattle.runner.specs.Ran.{Ran}
-use Rattle.runner.specs.Boot.{Boot, boot_world}
+use Rattle.runner.specs.Boot.{boot_world}
 use Rattle.runner.specs.Run.{RunsTo}
 use Rattle.runner.specs.Weight.{weight, weight_limit}
 use Rattle.runner.proofs.Whole.{none_runs, open_run, ended_run, next_stands, weight_more}

@@ -1,10 +1,8 @@
-use Rattle.std.proofs.Common.{◌≡◌, ◌≤◌, ◌<◌, ◌+◌, ◌∷◌, [], List, ℕ, Option, Some, None, IfSome, slice_get, slice_index, length, arith, refl, sym, ap, subst, ◌∙◌}
-use Rattle.wx_types.specs.declared.entries.Entry.{Entry}
-use Rattle.linear_memory.specs.LinearMemory.{LinearMemory}
+use Rattle.std.proofs.Common.{◌+◌, ◌∷◌, [], List, ℕ, None, slice_index, arith, refl, sym, ap, ◌∙◌}
 use Rattle.wasm_decode.specs.declared.thin.ThinImport.TheVariants.{ProcExit, FdWrite}
 use Rattle.interp.specs.GuestThread.{GuestThread, thread_of, arguments, answered}
 use Rattle.interp.specs.Left.{steps_left}
-use Rattle.runner.specs.OneProcess.{LeadsOn, end_entry, write_entry, reply_of, memory_after}
+use Rattle.runner.specs.OneProcess.{reply_of, memory_after}
 use Rattle.runner.proofs.Found.{found_import, is_found}
 use Rattle.runner.proofs.Turns.{exit_leads, return_leads, write_leads, first_word, as_leads}
 use Rattle.runner.proofs.one.take_turn.Goals as goal

@@ -1,4 +1,4 @@
-use Rattle.std.proofs.Common.{◌≡◌, ◌≤◌, ◌<◌, length, List, ℕ, arith}
+use Rattle.std.proofs.Common.{arith}
 use Rattle.runner.proofs.one.write.Goals as goal
 
 pub apply-requires-clause-few_bytes : goal.apply-requires-clause-few_bytes
