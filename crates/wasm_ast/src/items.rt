@@ -70,11 +70,14 @@ impl<T> Items<T> {
 
 impl<T: Drop> Items<T> {
     /// Adds an element at the end. `AllocError` is want of memory and nothing else; the list is
-    /// unchanged then, and the element is dropped.
+    /// unchanged then, and the element is dropped. The first element takes room for itself alone.
     pub fn push(&mut self, item: T) -> Result<(), AllocError>
         ensures ok { OnOk result (self.new ≡ self.old ++ item ∷ []) }
         ensures err { OnErr result (self.new ≡ self.old) }
     {
+        if self.items.is_empty() {
+            self.items.reserve_exact(1)?;
+        }
         self.items.push(item)?;
         Ok(())
     }

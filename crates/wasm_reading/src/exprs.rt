@@ -232,7 +232,7 @@ impl Filling {
 pub(crate) fn expr(alloc: Global, cursor: &mut Cursor<'_>) -> Result<Body, ReadFault>
     ensures { Gives (λ x. x) result cursor.new (expr_at cursor.old) }
 {
-    let mut lists = Vec::new(alloc);
+    let mut lists = Vec::with_capacity(alloc, 1)?;
     lists.push(Items::new(alloc))?;
     let mut filling = Filling {
         lists,

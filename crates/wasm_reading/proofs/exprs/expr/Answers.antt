@@ -6,7 +6,7 @@ use Rattle.wasm_reading.proofs.exprs.expr.Goals as goal
 pub loop-filling-init : goal.loop-filling-init
 loop-filling-init c =
     filled_first c.args.cursor.now (record { lists = c.push.new.self; opens = c.new-2.result; list = 0 })
-    (c.in_ok-push.ensures.items ∙ ap (λ x. x ++ c.new.result ∷ []) c.new-lists.ensures.items ∙ ap (λ r. r ∷ []) c.new.ensures) c.new-2.ensures.items refl
+    (c.in_ok-push.ensures.items ∙ ap (λ x. x ++ c.new.result ∷ []) c.in_ok-lists.ensures.items ∙ ap (λ r. r ∷ []) c.new.ensures) c.new-2.ensures.items refl
 
 pub new-requires-then-last : goal.new-requires-then-last
 new-requires-then-last c =
