@@ -1,7 +1,13 @@
 pub mod Answer
+pub mod Bodies
+pub mod Bounds
+pub mod Decodes
+pub mod Floats
 pub mod Grammar
+pub mod Nesting
 pub mod Reading
 pub mod Segment
+pub mod Summary
 pub mod ThinGrammar
 pub mod ThinModule
 pub mod Views

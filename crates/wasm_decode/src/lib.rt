@@ -1,17 +1,24 @@
 //! Modules of WebAssembly Core 1.0, read from their binary format (chapter 5 of the standard).
 #![tactic(auto)]
 
+mod bounds;
 mod check;
+mod decoding;
 mod fault;
+mod floats;
 mod items;
 mod parts;
 mod read;
 mod reading;
+mod summary;
 mod thin;
 
-pub use fault::ThinFault;
+pub use decoding::decode;
+pub use fault::{Bound, DecodeFault, ThinFault};
 pub use read::{one_thin_module, read_thin};
 pub use thin::{Thin, ThinImport, ThinInstr, ThinMemory, ThinSegment};
 
+#[cfg(test)]
+mod decode_tests;
 #[cfg(test)]
 mod tests;
