@@ -26,7 +26,7 @@ pub record Least (P : List ℕ → Type 0) (bytes written : List ℕ) : Type 0 w
   pub spells : P written
   pub least : length written ≤ length bytes
 
-some_is : {A : Type 0} (x y : A) → Some x ≡ Some y → x ≡ y
+pub some_is : {A : Type 0} (x y : A) → Some x ≡ Some y → x ≡ y
 some_is x y e = cc
 
 -- a byte that goes on in front of a number
