@@ -6,3 +6,4 @@ pub mod Bodies
 pub mod Items
 pub mod Groups
 pub mod Sections
+pub mod Modules

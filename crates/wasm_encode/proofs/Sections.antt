@@ -142,7 +142,7 @@ later_at (s ∷ ss) next body p a j o =
     ]
 
 -- what is written at a number is no longer than what is spelled there
-abbrev Fits : Option (List ℕ) → Option (List ℕ) → Type 0
+abbrev pub Fits : Option (List ℕ) → Option (List ℕ) → Type 0
 Fits None o = Unit {0}
 Fits (Some v) o = MatchOption o ⊥ (λ content. length v ≤ length content)
 
