@@ -1,24 +1,25 @@
 -- Sections, each at its number, are written so that they are spelled, in the fewest bytes.
-use Rattle.std.proofs.Common.{◌≡◌, ◌⊎◌, inl, inr, ℕ, zero, suc, ◌+◌, ◌-◌, ◌<◌, ◌≤◌, ◌==◌, Bool, true, false, cond, List, [], ◌∷◌, ◌++◌, length, Option, Some, None, MatchOption, refl, sym, ◌∙◌, ap, subst, arith, length-append, eq-eqb, ne_eqb, eqb-true}
+use Rattle.std.proofs.Common.{◌≡◌, inl, inr, ℕ, zero, suc, ◌+◌, ◌<◌, ◌≤◌, ◌==◌, cond, List, [], ◌∷◌, ◌++◌, length, Option, Some, None, MatchOption, refl, sym, ◌∙◌, ap, subst, arith, length-append, eq-eqb, ne_eqb}
 use Rattle.std.proofs.lemmas.Bool.{cases_lt}
 use Rattle.byte_cursor.proofs.Laws.{chosen}
-use Rattle.wasm_ast.specs.Shortest.{shortest_unsigned}
-use Rattle.wasm_ast.specs.Canon.{canon_bytes, canon_section}
-use Rattle.wasm_ast.specs.Spelling.{Joined, SpellsU32, SpellsEach, SpellsBytes}
-use Rattle.wasm_ast.specs.SpelledModule.{Section, SpellsSection, IsCustom, InOrder, content_of}
-use Rattle.wasm_encode.proofs.Numbers.{AreBytes, bytes_split, Least, some_is}
-use Rattle.wasm_encode.proofs.Parts.{content_least, content_bytes}
+use Rattle.wasm_ast.specs.Canon.{canon_section}
+use Rattle.wasm_ast.specs.Spelling.{SpellsEach, SpellsBytes}
+use Rattle.wasm_ast.specs.SpelledModule.{Section, SpellsSection, InOrder, content_of}
+use Rattle.wasm_encode.proofs.LeastNumbers.{AreBytes, bytes_split, Least, some_is}
+use Rattle.wasm_encode.proofs.LeastParts.{content_least, content_bytes}
 
--- what stands at each number from one on
+-- the sections of the contents at the numbers from one on, none where there is none
 abbrev pub sections_from : ℕ → List (Option (List ℕ)) → List Section
 sections_from next [] = []
 sections_from next (None ∷ slots) = sections_from (suc next) slots
 sections_from next (Some content ∷ slots) = record { id = next; content = content } ∷ sections_from (suc next) slots
 
+-- the bytes of the section of a number
 abbrev pub written_slot : ℕ → Option (List ℕ) → List ℕ
 written_slot id None = []
 written_slot id (Some content) = canon_section id content
 
+-- and of all of them
 abbrev pub written_from : ℕ → List (Option (List ℕ)) → List ℕ
 written_from next [] = []
 written_from next (slot ∷ slots) = written_slot next slot ++ written_from (suc next) slots
@@ -28,21 +29,31 @@ slot_at [] i = None
 slot_at (slot ∷ slots) zero = slot
 slot_at (slot ∷ slots) (suc i) = slot_at slots i
 
+-- a section that is of another number
+past : (s : Section) (ss : List Section) (id : ℕ) → (s.id ≡ id → ⊥) → content_of id (s ∷ ss) ≡ content_of id ss
+past s ss id n = ap (λ b. cond b (Some s.content) (content_of id ss)) (ne_eqb s.id id n)
+
+-- and one that is of that number
+here : (s : Section) (ss : List Section) (id : ℕ) → s.id ≡ id → content_of id (s ∷ ss) ≡ Some s.content
+here s ss id e = ap (λ b. cond b (Some s.content) (content_of id ss)) (eq-eqb s.id id e)
+
+-- no section of a number stands among those from a later one on
 none_before : (slots : List (Option (List ℕ))) (next id : ℕ) → id < next → content_of id (sections_from next slots) ≡ None
 none_before [] next id l = refl
 none_before (None ∷ slots) next id l = none_before slots (suc next) id (omega arith)
 none_before (Some content ∷ slots) next id l =
-    ap (λ b. cond b (Some content) (content_of id (sections_from (suc next) slots))) (ne_eqb next id (λ e. omega arith)) ∙ none_before slots (suc next) id (omega arith)
+    past (record { id = next; content = content }) (sections_from (suc next) slots) id (λ e. omega (arith, e)) ∙ none_before slots (suc next) id (omega arith)
 
 -- what stands at a number
 pub content_at : (slots : List (Option (List ℕ))) (next i id : ℕ) → id ≡ next + i → content_of id (sections_from next slots) ≡ slot_at slots i
 content_at [] next i id e = refl
 content_at (None ∷ slots) next zero id e = none_before slots (suc next) id (omega arith)
-content_at (Some content ∷ slots) next zero id e = ap (λ b. cond b (Some content) (content_of id (sections_from (suc next) slots))) (eq-eqb next id (omega arith))
+content_at (Some content ∷ slots) next zero id e = here (record { id = next; content = content }) (sections_from (suc next) slots) id (omega arith)
 content_at (None ∷ slots) next (suc i) id e = content_at slots (suc next) i id (omega arith)
 content_at (Some content ∷ slots) next (suc i) id e =
-    ap (λ b. cond b (Some content) (content_of id (sections_from (suc next) slots))) (ne_eqb next id (λ f. omega arith)) ∙ content_at slots (suc next) i id (omega arith)
+    past (record { id = next; content = content }) (sections_from (suc next) slots) id (λ f. omega (arith, f)) ∙ content_at slots (suc next) i id (omega arith)
 
+-- sections in order from a number on are so from a smaller one on
 order_less : (ss : List Section) (next more : ℕ) → next ≤ more → InOrder more ss → InOrder next ss
 order_less [] next more l o = tt
 order_less (s ∷ ss) next more l o = elim o [ inl w ↦ inl (w.0, w.1, order_less ss next more l w.2) | inr w ↦ inr (w.0, omega (arith, w.1), w.2, w.3) ]
@@ -56,7 +67,11 @@ order_from (Some content ∷ slots) next p l =
 
 -- ---- against sections that are spelled
 
--- the sections behind that number, without the custom ones
+-- what is known of the size of a section, within so many bytes and in front of the rest
+abbrev Size : List ℕ → ℕ → Option (List ℕ) → Type 0
+Size rest n o = MatchOption o (length rest ≤ n) (λ content. (front : List ℕ) × AreBytes front × SpellsBytes front content × (1 + length front + length rest ≤ n))
+
+-- the sections behind that number: some of those that are spelled, with what they say of each number there
 record Later (next : ℕ) (ss : List Section) (body : List ℕ) : Type 0 where
   later : List Section
   rest : List ℕ
@@ -64,24 +79,16 @@ record Later (next : ℕ) (ss : List Section) (body : List ℕ) : Type 0 where
   spelled : SpellsEach SpellsSection rest later
   order : InOrder (suc next) later
   same : (id : ℕ) → next < id → content_of id later ≡ content_of id ss
-  size : MatchOption (content_of next ss) (length rest ≤ length body) (λ content. (front : List ℕ) × AreBytes front × SpellsBytes front content × (1 + length front + length rest ≤ length body))
+  size : Size rest (length body) (content_of next ss)
 
 -- no section of a number comes in front of the next
 none_early : (ss : List Section) (next id : ℕ) → 0 < id → id < next → InOrder next ss → content_of id ss ≡ None
 none_early [] next id p l o = refl
 none_early (s ∷ ss) next id p l o =
     elim o [
-      | inl w ↦ ap (λ b. cond b (Some s.content) (content_of id ss)) (ne_eqb s.id id (λ e. omega (arith, w.0))) ∙ none_early ss next id p l w.2
-      | inr w ↦ ap (λ b. cond b (Some s.content) (content_of id ss)) (ne_eqb s.id id (λ e. omega (arith, w.1))) ∙ none_early ss (s.id + 1) id p (omega (arith, w.1)) w.3
+      | inl w ↦ past s ss id (λ e. omega (arith, w.0)) ∙ none_early ss next id p l w.2
+      | inr w ↦ past s ss id (λ e. omega (arith, w.1)) ∙ none_early ss (s.id + 1) id p (omega (arith, w.1)) w.3
     ]
-
--- a section that is of another number
-past : (s : Section) (ss : List Section) (id : ℕ) → (s.id ≡ id → ⊥) → content_of id (s ∷ ss) ≡ content_of id ss
-past s ss id n = ap (λ b. cond b (Some s.content) (content_of id ss)) (ne_eqb s.id id n)
-
--- what is known of the size of a section, within so many bytes
-abbrev Size : List ℕ → ℕ → Option (List ℕ) → Type 0
-Size rest n o = MatchOption o (length rest ≤ n) (λ content. (front : List ℕ) × AreBytes front × SpellsBytes front content × (1 + length front + length rest ≤ n))
 
 size_more : (rest : List ℕ) (m n : ℕ) (o : Option (List ℕ)) → m ≤ n → Size rest m o → Size rest n o
 size_more rest m n None l s = omega (arith, l, s)
@@ -91,6 +98,7 @@ size_rest : (rest : List ℕ) (n : ℕ) (o : Option (List ℕ)) → Size rest n 
 size_rest rest n None s = s
 size_rest rest n (Some content) s = omega (arith, s.3)
 
+-- the number in front of the size and the content
 section_front : (s : Section) (front : List ℕ) → SpellsSection front s → (more : List ℕ) × (front ≡ s.id ∷ more) × SpellsBytes more s.content
 section_front s [] h = absurd h
 section_front s (b ∷ more) h = (more, ap (λ c. c ∷ more) h.0, h.1)
@@ -126,17 +134,17 @@ later_at (s ∷ ss) next body p a j o =
                   size = subst (λ o. Size body (length body) o) (sym (none_early (s ∷ ss) (suc next) next p (omega arith) after)) (omega arith);
                 }
             | inr l ↦
-                let here : s.id ≡ next = omega (arith, l, w.1) in
+                let it : s.id ≡ next = omega (arith, l, w.1) in
                 let f = section_front s j.front j.first in
                 record {
                   later = ss;
                   rest = j.back;
                   are = b.1;
                   spelled = j.second;
-                  order = subst (λ n. InOrder n ss) (omega (arith, here)) w.3;
-                  same = λ id l. sym (past s ss id (λ e. omega (arith, here, l)));
-                  size = subst (λ o. Size j.back (length body) o) (sym (ap (λ b. cond b (Some s.content) (content_of next ss)) (eq-eqb s.id next here)))
-                  (f.0, (subst AreBytes f.1 b.0).1, f.2, omega (arith, long, ap length f.1));
+                  order = subst (λ n. InOrder n ss) (omega (arith, it)) w.3;
+                  same = λ id l. sym (past s ss id (λ e. omega (arith, it, l)));
+                  size = subst (λ o. Size j.back (length body) o) (sym (here s ss next it))
+                      (f.0, (subst AreBytes f.1 b.0).1, f.2, omega (arith, long, ap length f.1));
                 }
           ]
     ]
@@ -146,6 +154,7 @@ abbrev pub Fits : Option (List ℕ) → Option (List ℕ) → Type 0
 Fits None o = Unit {0}
 Fits (Some v) o = MatchOption o ⊥ (λ content. length v ≤ length content)
 
+-- and that at each number from one on
 abbrev pub Covered : ℕ → List Section → List (Option (List ℕ)) → Type 0
 Covered next ss [] = Unit {0}
 Covered next ss (slot ∷ slots) = Fits slot (content_of next ss) × Covered (suc next) ss slots

@@ -1,11 +1,11 @@
 -- What is written of parts is spelled and no longer, where that of each part is.
-use Rattle.std.proofs.Common.{◌≡◌, ℕ, ◌+◌, ◌≤◌, List, [], ◌∷◌, ◌++◌, length, refl, sym, ◌∙◌, ap, subst, arith, length-append}
+use Rattle.std.proofs.Common.{◌≡◌, ℕ, ◌≤◌, List, [], ◌∷◌, ◌++◌, length, refl, ap, subst, arith, length-append}
 use Rattle.std.specs.List.{flat_map}
 use Rattle.wasm_ast.specs.Shortest.{shortest_unsigned}
 use Rattle.wasm_ast.specs.CanonInstr.{canon_vec}
 use Rattle.wasm_ast.specs.Canon.{canon_bytes}
 use Rattle.wasm_ast.specs.Spelling.{Joined, Behind, SpellsU32, SpellsEach, SpellsVec, SpellsBytes, SpellsName, Sized}
-use Rattle.wasm_encode.proofs.Numbers.{AreBytes, bytes_split, Least, u32_least}
+use Rattle.wasm_encode.proofs.LeastNumbers.{AreBytes, bytes_split, Least, u32_least}
 
 -- each thing is written so that it is spelled, in no more bytes than any that spell it
 abbrev pub IsLeast : {X : Type 0} → (List ℕ → X → Type 0) → (X → List ℕ) → Type 0

@@ -1,5 +1,5 @@
 -- Sequences of instructions, and expressions, are written so that they are spelled, in the fewest bytes.
-use Rattle.std.proofs.Common.{◌≡◌, ◌⊎◌, inl, inr, ℕ, ◌+◌, ◌≤◌, List, [], ◌∷◌, ◌++◌, length, refl, sym, ◌∙◌, ap, subst, arith, length-append, append_assoc}
+use Rattle.std.proofs.Common.{◌≡◌, ◌⊎◌, inl, inr, ℕ, List, [], ◌∷◌, ◌++◌, length, refl, sym, ◌∙◌, ap, subst, arith, length-append, append_assoc}
 use Rattle.std.proofs.lemmas.List.{append-nil}
 use Rattle.wasm_ast.specs.declared.types.ValType.{ValType}
 use Rattle.std.specs.Prelude.{Option}
@@ -10,16 +10,22 @@ use Rattle.wasm_ast.specs.Spelling.{Joined}
 use Rattle.wasm_ast.specs.SpelledTypes.{SpellsBlockType}
 use Rattle.wasm_ast.specs.SpelledInstr.{opcode_at, Opens, SpellsSequence, SpellsExpr}
 use Rattle.wasm_ast.specs.CanonInstr.{block_type_byte, canon_plain, canon_else, canon_sequence, canon_expr}
-use Rattle.wasm_encode.proofs.Numbers.{AreBytes, bytes_split, Least}
-use Rattle.wasm_encode.proofs.Parts.{IsLeast, fixed, joined_least}
-use Rattle.wasm_encode.proofs.Types.{blocktype_least}
-use Rattle.wasm_encode.proofs.Instrs.{plain_least}
+use Rattle.wasm_encode.proofs.LeastNumbers.{AreBytes, bytes_split, Least}
+use Rattle.wasm_encode.proofs.LeastParts.{IsLeast, fixed, joined_least}
+use Rattle.wasm_encode.proofs.LeastTypes.{blocktype_least}
+use Rattle.wasm_encode.proofs.LeastInstrs.{plain_least}
 
-opens_least : {P Q : List ℕ → Type 0} (o : Opcode) (c : ℕ) (bytes w : List ℕ) → AreBytes bytes → Opens o P bytes → opcode_at c ≡ o → ((rest : List ℕ) → AreBytes rest → P rest → Least Q rest w) → Least (Opens o Q) bytes (c ∷ w)
-opens_least {P} {Q} o c [] w a s e f = absurd s
-opens_least {P} {Q} o c (b ∷ bytes) w a s e f =
-    let p : Least Q bytes w = f bytes a.1 s.1 in
+opens_least : {P : List ℕ → Type 0} (o : Opcode) (c : ℕ) (bytes w : List ℕ) → AreBytes bytes → Opens o P bytes → opcode_at c ≡ o → ((rest : List ℕ) → AreBytes rest → P rest → Least P rest w) → Least (Opens o P) bytes (c ∷ w)
+opens_least {P} o c [] w a s e f = absurd s
+opens_least {P} o c (b ∷ bytes) w a s e f =
+    let p : Least P bytes w = f bytes a.1 s.1 in
     record { spells = (e, p.spells); least = omega (arith, p.least) }
+
+-- a block type behind an opcode, and what is behind it
+typed_least : {P : List ℕ → Type 0} (o : Opcode) (c : ℕ) (of : Option ValType) (bytes w : List ℕ) → AreBytes bytes → Opens o (Joined (λ a. SpellsBlockType a of) P) bytes → opcode_at c ≡ o →
+    ((x : List ℕ) → AreBytes x → P x → Least P x w) → Least (Opens o (Joined (λ a. SpellsBlockType a of) P)) bytes (c ∷ block_type_byte of ∷ w)
+typed_least {P} o c of bytes w a s e f =
+    opens_least o c bytes (block_type_byte of ∷ w) a s e (λ x b j. joined_least x (block_type_byte of ∷ []) w b j (λ d. blocktype_least j.front of d j.first) (λ d. f j.back d j.second))
 
 -- what stands in an else, behind its byte
 else_written : (s : Sequence) (w : List ℕ) → ((s ≡ Empty) × (canon_else s w ≡ [])) ⊎ (canon_else s w ≡ 0x05 ∷ w)
@@ -72,7 +78,7 @@ module _ {P Q : List ℕ → Type 0} (v w : List ℕ) (otherwise : Sequence) (f 
           | inl e ↦ short_arms bytes (canon_else otherwise u) e.0 e.1 (left_out bytes a j)
           | inr e ↦
               let p = joined_least bytes v (0x05 ∷ (u ++ 0x0B ∷ w)) a j (λ b. f j.front b j.first)
-                  (λ b. opens_least op.Else 0x05 j.back (u ++ 0x0B ∷ w) b j.second refl (λ more c k. inner_least more u w c k h g)) in
+              (λ b. opens_least op.Else 0x05 j.back (u ++ 0x0B ∷ w) b j.second refl (λ more c k. inner_least more u w c k h g)) in
               let same : v ++ (0x05 ∷ (u ++ 0x0B ∷ w)) ≡ v ++ canon_else otherwise u ++ 0x0B ∷ w = sym (ap (λ z. v ++ z ++ 0x0B ∷ w) e ∙ append_assoc v (0x05 ∷ u) (0x0B ∷ w)) in
               subst (λ z. Least (Arms P otherwise Q) bytes z) same (record { spells = inr p.spells; least = p.least })
         ]
@@ -83,18 +89,14 @@ sequence_least Empty bytes a s = fixed bytes [] s
 sequence_least (Plain i rest) bytes a s =
     joined_least bytes (canon_plain i) (canon_sequence rest) a s (λ b. plain_least s.front i b s.first) (λ b. sequence_least rest s.back b s.second)
 sequence_least (Block of body rest) bytes a s =
-    opens_least op.Block 0x02 bytes (block_type_byte of ∷ canon_sequence body ++ 0x0B ∷ canon_sequence rest) a s refl
-    (λ more b j. joined_least more (block_type_byte of ∷ []) (canon_sequence body ++ 0x0B ∷ canon_sequence rest) b j (λ c. blocktype_least j.front of c j.first)
-    (λ c. inner_least j.back (canon_sequence body) (canon_sequence rest) c j.second (λ x d t. sequence_least body x d t) (λ x d t. sequence_least rest x d t)))
+    typed_least op.Block 0x02 of bytes (canon_sequence body ++ 0x0B ∷ canon_sequence rest) a s refl
+    (λ x b j. inner_least x (canon_sequence body) (canon_sequence rest) b j (λ y c t. sequence_least body y c t) (λ y c t. sequence_least rest y c t))
 sequence_least (Loop of body rest) bytes a s =
-    opens_least op.Loop 0x03 bytes (block_type_byte of ∷ canon_sequence body ++ 0x0B ∷ canon_sequence rest) a s refl
-    (λ more b j. joined_least more (block_type_byte of ∷ []) (canon_sequence body ++ 0x0B ∷ canon_sequence rest) b j (λ c. blocktype_least j.front of c j.first)
-    (λ c. inner_least j.back (canon_sequence body) (canon_sequence rest) c j.second (λ x d t. sequence_least body x d t) (λ x d t. sequence_least rest x d t)))
+    typed_least op.Loop 0x03 of bytes (canon_sequence body ++ 0x0B ∷ canon_sequence rest) a s refl
+    (λ x b j. inner_least x (canon_sequence body) (canon_sequence rest) b j (λ y c t. sequence_least body y c t) (λ y c t. sequence_least rest y c t))
 sequence_least (If of then otherwise rest) bytes a s =
-    let w : List ℕ = canon_sequence then ++ canon_else otherwise (canon_sequence otherwise) ++ 0x0B ∷ canon_sequence rest in
-    opens_least op.If 0x04 bytes (block_type_byte of ∷ w) a s refl
-    (λ more b j. joined_least more (block_type_byte of ∷ []) w b j (λ c. blocktype_least j.front of c j.first)
-    (λ c. arms_least (canon_sequence then) (canon_sequence rest) otherwise (λ x d t. sequence_least then x d t) (λ x d t. sequence_least otherwise x d t) (λ x d t. sequence_least rest x d t) j.back c j.second))
+    typed_least op.If 0x04 of bytes (canon_sequence then ++ canon_else otherwise (canon_sequence otherwise) ++ 0x0B ∷ canon_sequence rest) a s refl
+    (λ x b j. arms_least (canon_sequence then) (canon_sequence rest) otherwise (λ y c t. sequence_least then y c t) (λ y c t. sequence_least otherwise y c t) (λ y c t. sequence_least rest y c t) x b j)
 
 pub expr_least : IsLeast SpellsExpr canon_expr
 expr_least bytes s a e = inner_least bytes (canon_sequence s) [] a e (λ x b t. sequence_least s x b t) (λ x b t. fixed x [] t)

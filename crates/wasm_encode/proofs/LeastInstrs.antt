@@ -1,5 +1,5 @@
 -- Instructions that have no inner instructions are written so that they are spelled, in the fewest bytes.
-use Rattle.std.proofs.Common.{◌≡◌, ℕ, zero, suc, ◌+◌, ◌≤◌, ◌==◌, Bool, true, false, cond, ◌&&◌, List, [], ◌∷◌, ◌++◌, length, refl, sym, ◌∙◌, ap, subst, arith, eqb-true, length-append, append_assoc}
+use Rattle.std.proofs.Common.{◌≡◌, ℕ, zero, suc, ◌+◌, ◌≤◌, ◌==◌, Bool, true, false, ◌&&◌, List, [], ◌∷◌, ◌++◌, length, refl, sym, ◌∙◌, ap, subst, arith, eqb-true, length-append, append_assoc}
 use Rattle.std.specs.Prelude.{slice_index_or}
 use Rattle.std.specs.List.{list_all}
 use Rattle.wasm_ast.specs.declared.types.IntType.TheVariants as int
@@ -27,12 +27,11 @@ use Rattle.wasm_ast.specs.declared.opcode.Opcode.TheVariants as op
 use Rattle.wasm_ast.specs.declared.opcode.AtomicOpcode.{AtomicOpcode}
 use Rattle.wasm_ast.specs.declared.opcode.AtomicOpcode.TheVariants as atomic
 use Rattle.wasm_ast.specs.declared.opcode.TheConstants.{OPCODES}
-use Rattle.wasm_ast.specs.Spelling.{Joined, SpellsU32, SpellsVec}
 use Rattle.wasm_ast.specs.SpelledInstr.{opcode_at, atomic_at, SpellsMemArg, AtomicImmediates, SpellsAtomic, Immediates, SpellsPlain}
 use Rattle.wasm_ast.specs.Shortest.{shortest_unsigned, shortest_signed}
 use Rattle.wasm_ast.specs.CanonInstr.{canon_vec, numeric_opcode, variable_opcode, load_opcode, store_opcode, form_place, rmw_opcode, access_opcode, canon_plain}
-use Rattle.wasm_encode.proofs.Numbers.{AreBytes, Least, i32_least, i64_least}
-use Rattle.wasm_encode.proofs.Parts.{IsLeast, u32_is, fixed, joined_least, vec_least}
+use Rattle.wasm_encode.proofs.LeastNumbers.{AreBytes, Least, i32_least, i64_least}
+use Rattle.wasm_encode.proofs.LeastParts.{IsLeast, u32_is, fixed, joined_least, vec_least}
 
 -- ---- each opcode begins what it is written for
 

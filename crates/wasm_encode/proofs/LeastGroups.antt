@@ -1,23 +1,21 @@
 -- The locals of a function are written so that they are spelled, in the fewest bytes.
-use Rattle.std.proofs.Common.{◌≡◌, ◌⊎◌, inl, inr, ℕ, zero, suc, ◌+◌, ◌<◌, ◌≤◌, ◌^◌, ◌==◌, Bool, true, false, cond, List, [], ◌∷◌, ◌++◌, length, refl, sym, ◌∙◌, ap, subst, arith, length-append, append_assoc, eq-eqb, ne_eqb}
+use Rattle.std.proofs.Common.{◌≡◌, ◌⊎◌, inl, inr, ℕ, ◌+◌, ◌<◌, ◌≤◌, ◌^◌, true, false, cond, List, [], ◌∷◌, ◌++◌, length, refl, sym, ◌∙◌, ap, subst, arith, length-append, append_assoc, eq-eqb, ne_eqb}
 use Rattle.std.specs.List.{flat_map}
-use Rattle.std.proofs.lemmas.List.{append-nil}
 use Rattle.std.proofs.lemmas.Bool.{cases_lt}
-use Rattle.wasm_ast.specs.declared.types.ValType.{ValType}
 use Rattle.wasm_ast.specs.declared.locals.LocalGroup.{LocalGroup}
 use Rattle.wasm_ast.specs.Types.{same_type}
-use Rattle.wasm_ast.specs.Locals.{total, joined, added, AreMerged, IsFollowedByOther}
+use Rattle.wasm_ast.specs.Locals.{total, joined, added, AreMerged}
 use Rattle.wasm_ast.proofs.LocalsLemmas.{total-joined, merged-joined}
 use Rattle.wasm_ast.specs.Shortest.{shortest_unsigned}
 use Rattle.wasm_ast.specs.CanonInstr.{canon_vec, canon_expr}
 use Rattle.wasm_ast.specs.Canon.{canon_group, canon_func, canon_code}
 use Rattle.wasm_ast.specs.SpelledTypes.{valtype_byte}
-use Rattle.wasm_ast.specs.Spelling.{Joined, SpellsU32, SpellsEach, SpellsVec}
+use Rattle.wasm_ast.specs.Spelling.{SpellsEach, SpellsVec}
 use Rattle.wasm_ast.specs.SpelledModule.{SpellsGroup, SpellsLocals, SpellsCode, gathered}
-use Rattle.wasm_encode.proofs.Numbers.{AreBytes, bytes_split, Least, u32_least, u32_spelled, u32_sum}
-use Rattle.wasm_encode.proofs.Parts.{IsLeast, u32_is, joined_least, sized_least, each_least}
-use Rattle.wasm_encode.proofs.Types.{valtype_least}
-use Rattle.wasm_encode.proofs.Bodies.{expr_least}
+use Rattle.wasm_encode.proofs.LeastNumbers.{AreBytes, bytes_split, Least, u32_least, u32_spelled, u32_sum}
+use Rattle.wasm_encode.proofs.LeastParts.{IsLeast, u32_is, joined_least, sized_least, each_least}
+use Rattle.wasm_encode.proofs.LeastTypes.{valtype_least}
+use Rattle.wasm_encode.proofs.LeastBodies.{expr_least}
 
 group_least : IsLeast SpellsGroup canon_group
 group_least bytes g a s =

@@ -1,18 +1,16 @@
 -- The items of a module are written so that they are spelled, in the fewest bytes.
-use Rattle.std.proofs.Common.{◌≡◌, ℕ, List, [], ◌∷◌, ◌++◌, length, refl, sym, ◌∙◌, ap, subst, append_assoc}
-use Rattle.wasm_ast.specs.declared.module.ImportKind.{ImportKind}
+use Rattle.std.proofs.Common.{ℕ, List, ◌++◌, sym, subst, append_assoc}
 use Rattle.wasm_ast.specs.declared.module.ImportKind.TheVariants as imported
-use Rattle.wasm_ast.specs.declared.module.ExportKind.{ExportKind}
 use Rattle.wasm_ast.specs.declared.module.ExportKind.TheVariants as exported
 use Rattle.wasm_ast.specs.Shortest.{shortest_unsigned}
 use Rattle.wasm_ast.specs.CanonInstr.{canon_vec, canon_expr}
 use Rattle.wasm_ast.specs.Canon.{canon_bytes, canon_memory, canon_table, canon_global_type, canon_import_kind, canon_import, canon_global, canon_export_kind, canon_export, canon_element, canon_segment}
 use Rattle.wasm_ast.specs.Spelling.{Joined}
 use Rattle.wasm_ast.specs.SpelledModule.{SpellsImportKind, SpellsImport, SpellsGlobal, SpellsExportKind, SpellsExport, SpellsElement, SpellsSegment}
-use Rattle.wasm_encode.proofs.Numbers.{AreBytes, Least}
-use Rattle.wasm_encode.proofs.Parts.{IsLeast, u32_is, joined_least, behind_least, vec_least, bytes_least, name_least}
-use Rattle.wasm_encode.proofs.Types.{memory_least, table_least, globaltype_least}
-use Rattle.wasm_encode.proofs.Bodies.{expr_least}
+use Rattle.wasm_encode.proofs.LeastNumbers.{AreBytes, Least}
+use Rattle.wasm_encode.proofs.LeastParts.{IsLeast, u32_is, joined_least, behind_least, vec_least, bytes_least, name_least}
+use Rattle.wasm_encode.proofs.LeastTypes.{memory_least, table_least, globaltype_least}
+use Rattle.wasm_encode.proofs.LeastBodies.{expr_least}
 
 -- three parts one after another
 triple_least : {P Q R : List ℕ → Type 0} (bytes u v w : List ℕ) → AreBytes bytes → Joined P (Joined Q R) bytes → ((x : List ℕ) → AreBytes x → P x → Least P x u) → ((x : List ℕ) → AreBytes x → Q x → Least Q x v) →

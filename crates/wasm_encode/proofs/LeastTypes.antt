@@ -1,14 +1,12 @@
 -- Types are written so that they are spelled, in the fewest bytes.
-use Rattle.std.proofs.Common.{◌≡◌, ℕ, Bool, true, false, cond, List, [], ◌∷◌, ◌++◌, length, Option, Some, None, refl, sym, ◌∙◌, ap, subst}
+use Rattle.std.proofs.Common.{ℕ, Bool, true, false, List, [], ◌∷◌, ◌++◌, Option, Some, None, sym, subst}
 use Rattle.wasm_ast.specs.declared.types.ValType.{ValType}
-use Rattle.wasm_ast.specs.declared.types.FuncType.{FuncType}
-use Rattle.wasm_ast.specs.declared.types.Limits.{Limits}
 use Rattle.wasm_ast.specs.Shortest.{shortest_unsigned}
 use Rattle.wasm_ast.specs.CanonInstr.{canon_vec, block_type_byte}
 use Rattle.wasm_ast.specs.Canon.{canon_val_type, canon_func_type, canon_limits_of, canon_memory, canon_table, canon_global_type}
 use Rattle.wasm_ast.specs.SpelledTypes.{valtype_byte, SpellsValType, SpellsBlockType, SpellsFuncType, LimitsForm, SpellsMemory, SpellsTable, SpellsGlobalType}
-use Rattle.wasm_encode.proofs.Numbers.{AreBytes, Least}
-use Rattle.wasm_encode.proofs.Parts.{IsLeast, u32_is, fixed, joined_least, behind_least, vec_least}
+use Rattle.wasm_encode.proofs.LeastNumbers.{AreBytes, Least}
+use Rattle.wasm_encode.proofs.LeastParts.{IsLeast, u32_is, fixed, joined_least, behind_least, vec_least}
 
 pub valtype_least : IsLeast SpellsValType canon_val_type
 valtype_least bytes of a s = fixed bytes (valtype_byte of ∷ []) s

@@ -1,5 +1,5 @@
 -- A module is written so that it is spelled, in the fewest bytes.
-use Rattle.std.proofs.Common.{◌≡◌, ℕ, zero, suc, ◌+◌, ◌<◌, ◌≤◌, ◌^◌, List, [], ◌∷◌, ◌++◌, length, Option, Some, None, MatchOption, refl, sym, ◌∙◌, ap, subst, arith, length-append, append_assoc}
+use Rattle.std.proofs.Common.{◌≡◌, ℕ, suc, ◌+◌, ◌<◌, ◌^◌, List, [], ◌∷◌, ◌++◌, length, Option, Some, None, MatchOption, refl, sym, ◌∙◌, ap, subst, arith, length-append, append_assoc}
 use Rattle.std.proofs.lemmas.List.{append-nil}
 use Rattle.std.specs.List.{All}
 use Rattle.std.proofs.lemmas.List.Elements.{recursion_from_All}
@@ -10,12 +10,12 @@ use Rattle.wasm_ast.specs.Canon.{canon_func_type, canon_import, canon_table, can
 use Rattle.wasm_ast.specs.Spelling.{SpellsU32, SpellsVec}
 use Rattle.wasm_ast.specs.SpelledTypes.{SpellsFuncType, SpellsTable, SpellsMemory}
 use Rattle.wasm_ast.specs.SpelledModule.{SpellsImport, SpellsGlobal, SpellsExport, SpellsElement, SpellsCode, SpellsSegment, Section, content_of, Holds, HoldsStart, preamble, SpellsModule}
-use Rattle.wasm_encode.proofs.Numbers.{AreBytes, bytes_split, Least}
-use Rattle.wasm_encode.proofs.Parts.{IsLeast, u32_is, vec_least}
-use Rattle.wasm_encode.proofs.Types.{functype_least, table_least, memory_least}
-use Rattle.wasm_encode.proofs.Items.{import_least, global_least, export_least, element_least, segment_least}
-use Rattle.wasm_encode.proofs.Groups.{code_least}
-use Rattle.wasm_encode.proofs.Sections.{sections_from, written_slot, written_from, slot_at, content_at, order_from, Fits, Covered, slots_least, contents_bytes}
+use Rattle.wasm_encode.proofs.LeastNumbers.{AreBytes, bytes_split, Least}
+use Rattle.wasm_encode.proofs.LeastParts.{IsLeast, u32_is, vec_least}
+use Rattle.wasm_encode.proofs.LeastTypes.{functype_least, table_least, memory_least}
+use Rattle.wasm_encode.proofs.LeastItems.{import_least, global_least, export_least, element_least, segment_least}
+use Rattle.wasm_encode.proofs.LeastGroups.{code_least}
+use Rattle.wasm_encode.proofs.LeastSections.{sections_from, written_slot, written_from, slot_at, content_at, order_from, Fits, Covered, slots_least, contents_bytes}
 
 -- the content of the section of a list, if there is one
 abbrev slot : {X : Type 0} → (X → List ℕ) → List X → Option (List ℕ)
@@ -53,17 +53,17 @@ behind_is (slot ∷ slots) front next = behind_is slots (front ++ written_slot n
 slots_are : (m : Module) → behind preamble 1 (slots m) ≡ canon m
 slots_are m =
     rw (
-    list_is canon_func_type 1 m.types,
-    list_is canon_import 2 m.imports,
-    list_is shortest_unsigned 3 m.functions,
-    list_is canon_table 4 m.tables,
-    list_is canon_memory 5 m.memories,
-    list_is canon_global 6 m.globals,
-    list_is canon_export 7 m.exports,
-    start_is m.start,
-    list_is canon_element 9 m.elements,
-    list_is canon_code 10 m.codes,
-    list_is canon_segment 11 m.segments
+      list_is canon_func_type 1 m.types,
+      list_is canon_import 2 m.imports,
+      list_is shortest_unsigned 3 m.functions,
+      list_is canon_table 4 m.tables,
+      list_is canon_memory 5 m.memories,
+      list_is canon_global 6 m.globals,
+      list_is canon_export 7 m.exports,
+      start_is m.start,
+      list_is canon_element 9 m.elements,
+      list_is canon_code 10 m.codes,
+      list_is canon_segment 11 m.segments,
     ) refl
 
 canon_is : (m : Module) → canon m ≡ preamble ++ written_from 1 (slots m)

@@ -1,15 +1,12 @@
 -- The shortest numbers are spelled, and no spelling is shorter.
 use Rattle.std.proofs.Common.{◌≡◌, ◌⊎◌, inl, inr, ℕ, zero, suc, ℤ, pos, negsuc, ◌+◌, ◌-◌, ◌*◌, ◌/◌, ◌%◌, ◌^◌, ◌<◌, ◌≤◌, ◌+ℤ◌, ◌-ℤ◌, ◌*ℤ◌, nat_lt, nat_le, Bool, true, false, cond, ◌&&◌, List, [], ◌∷◌, ◌++◌, length, Option, Some, None, refl, sym, ◌∙◌, ap, subst, arith}
 use Rattle.std.specs.List.{AllByRecursion}
-use Rattle.std.proofs.Math.Nat.{pow-le-pow_right}
-use Rattle.std.proofs.lemmas.Nat.{pow-add, pow_pos}
 use Rattle.std.proofs.lemmas.Bool.{lt-ltb, le-ltb, ltb-true, ltb-false, cases_lt, le-leb, lt-leb}
 use Rattle.byte_cursor.specs.Integers.{Spells, SpellsUnsigned, SpellsSigned, unsigned_last, unsigned_joined, signed_last, signed_joined}
 use Rattle.byte_cursor.proofs.Bounds.{seven_more, pow_le, unsigned_some, signed_low, signed_high}
 use Rattle.byte_cursor.proofs.Laws.{chosen}
 use Rattle.std.proofs.lemmas.Int.{ints}
-use Rattle.std.proofs.Common.{rules}
-use Rattle.std.specs.Int.{int_div_euclid, int_rem_euclid}
+use Rattle.std.specs.Int.{int_div_euclid}
 use Rattle.wasm_ast.specs.Shortest.{unsigned_within, shortest_unsigned, signed_within, shortest_signed, is_small, low_bits}
 use Rattle.wasm_ast.specs.Spelling.{SpellsU32}
 
