@@ -9,3 +9,6 @@ pub mod SpelledInstr
 pub mod SpelledModule
 pub mod Typing
 pub mod TypingModule
+pub mod Shortest
+pub mod CanonInstr
+pub mod Canon

@@ -1,0 +1,273 @@
+-- The shortest numbers are spelled, and no spelling is shorter.
+use Rattle.std.proofs.Common.{◌≡◌, ◌⊎◌, inl, inr, ℕ, zero, suc, ℤ, pos, negsuc, ◌+◌, ◌-◌, ◌*◌, ◌/◌, ◌%◌, ◌^◌, ◌<◌, ◌≤◌, ◌+ℤ◌, ◌-ℤ◌, ◌*ℤ◌, nat_lt, nat_le, Bool, true, false, cond, ◌&&◌, List, [], ◌∷◌, ◌++◌, length, Option, Some, None, refl, sym, ◌∙◌, ap, subst, arith}
+use Rattle.std.specs.List.{AllByRecursion}
+use Rattle.std.proofs.lemmas.Bool.{lt-ltb, le-ltb, ltb-true, ltb-false, cases_lt, le-leb, lt-leb}
+use Rattle.byte_cursor.specs.Integers.{Spells, SpellsUnsigned, SpellsSigned, unsigned_last, unsigned_joined, signed_last, signed_joined}
+use Rattle.byte_cursor.proofs.Bounds.{seven_more, pow_le, unsigned_some, signed_low, signed_high}
+use Rattle.byte_cursor.proofs.Laws.{chosen}
+use Rattle.std.proofs.lemmas.Int.{ints}
+use Rattle.std.specs.Int.{int_div_euclid}
+use Rattle.wasm_ast.specs.Shortest.{unsigned_within, shortest_unsigned, signed_within, shortest_signed, is_small, low_bits}
+use Rattle.wasm_ast.specs.Spelling.{SpellsU32}
+
+-- each is a byte
+abbrev pub AreBytes : List ℕ → Type 0
+AreBytes bytes = AllByRecursion (λ b. b < 2 ^ 8) bytes
+
+pub bytes_split : (xs ys : List ℕ) → AreBytes (xs ++ ys) → AreBytes xs × AreBytes ys
+bytes_split [] ys h = (tt, h)
+bytes_split (x ∷ xs) ys h = let r = bytes_split xs ys h.1 in ((h.0, r.0), r.1)
+
+-- what is written has the property that the bytes have, and is no longer
+pub record Least (P : List ℕ → Type 0) (bytes written : List ℕ) : Type 0 where
+  pub spells : P written
+  pub least : length written ≤ length bytes
+
+pub some_is : {A : Type 0} (x y : A) → Some x ≡ Some y → x ≡ y
+some_is x y e = cc
+
+-- a byte that goes on in front of a number
+goes_on : {N : Type 0} (last : ℕ → ℕ → Option N) (joined : ℕ → N → N) (bits b : ℕ) (bytes : List ℕ) (m n : N) → 128 ≤ b → 7 < bits → n ≡ joined b m → Spells last joined (bits - 7) bytes m → Spells last joined bits (b ∷ bytes) n
+goes_on last joined bits b [] m n high more e s = absurd s
+goes_on last joined bits b (c ∷ bytes) m n high more e s = (high, more, m, s, e)
+
+-- ---- unsigned numbers
+
+last_unsigned : (bits b n : ℕ) → unsigned_last bits b ≡ Some n → (b < 2 ^ bits) × (b ≡ n)
+last_unsigned bits b n h =
+    elim (chosen (nat_lt b (2 ^ bits)) (Some b) None (Some n) h) [
+      | inl w ↦ (ltb-true b (2 ^ bits) w.0, some_is b n w.1)
+      | inr w ↦ let no : None ≡ Some n = w.1 in absurd cc
+    ]
+
+small_unsigned : (more n : ℕ) → n < 128 → unsigned_within more n ≡ n ∷ []
+unfolding unsigned_within
+small_unsigned zero n h = refl
+small_unsigned (suc more) n h = ap (λ t. cond t (n ∷ []) ((128 + n % 128) ∷ unsigned_within more (n / 128))) (lt-ltb n 128 h)
+
+large_unsigned : (more n : ℕ) → 128 ≤ n → unsigned_within (suc more) n ≡ (128 + n % 128) ∷ unsigned_within more (n / 128)
+unfolding unsigned_within
+large_unsigned more n h = ap (λ t. cond t (n ∷ []) ((128 + n % 128) ∷ unsigned_within more (n / 128))) (le-ltb n 128 h)
+
+-- a number that is no larger than one that is spelled
+pub unsigned_least : (more bits : ℕ) (bytes : List ℕ) (n m : ℕ) → bits ≤ 7 * more + 7 → AreBytes bytes → SpellsUnsigned bits bytes n → m ≤ n →
+    Least (λ a. SpellsUnsigned bits a m) bytes (unsigned_within more m)
+unsigned_least more bits [] n m f a s l = absurd s
+unsigned_least more bits (b ∷ []) n m f a s l =
+    let p = last_unsigned bits b n s.1 in
+    let low : m < 128 = omega (arith, s.0, p.1) in
+    let fits : m < 2 ^ bits = omega (arith, p.0, p.1) in
+    subst (λ w. Least (λ a. SpellsUnsigned bits a m) (b ∷ []) w) (sym (small_unsigned more m low)) (record { spells = (low, sym (unsigned_some bits m fits)); least = omega arith })
+unsigned_least zero bits (b ∷ c ∷ bytes) n m f a s l = absurd (omega (arith, s.1))
+unsigned_least (suc more) bits (b ∷ c ∷ bytes) n m f a s l =
+    let h : ℕ = s.2 in
+    let sum : n ≡ 128 * h + (b - 128) = s.4 in
+    let byte : b < 256 = a.0 in
+    elim (cases_lt m 128) [
+      | inl low ↦
+          let seven : 2 ^ 7 ≤ 2 ^ bits = pow_le 7 bits (omega (arith, s.1)) in
+          let fits : m < 2 ^ bits = omega arith in
+          subst (λ w. Least (λ a. SpellsUnsigned bits a m) (b ∷ c ∷ bytes) w) (sym (small_unsigned (suc more) m low)) (record { spells = (low, sym (unsigned_some bits m fits)); least = omega arith })
+      | inr high ↦
+          let few : bits - 7 ≤ 7 * more + 7 = omega (arith, f) in
+          let part : m / 128 ≤ h = omega arith in
+          let r = unsigned_least more (bits - 7) (c ∷ bytes) h (m / 128) few a.1 s.3 part in
+          let again : m ≡ 128 * (m / 128) + (128 + m % 128 - 128) = omega arith in
+          let shorter : length (unsigned_within more (m / 128)) ≤ length (c ∷ bytes) = r.least in
+          subst (λ w. Least (λ a. SpellsUnsigned bits a m) (b ∷ c ∷ bytes) w) (sym (large_unsigned more m high)) (record {
+            spells = goes_on unsigned_last unsigned_joined bits (128 + m % 128) (unsigned_within more (m / 128)) (m / 128) m (omega arith) s.1 again r.spells;
+            least = omega arith;
+          })
+    ]
+
+-- a number of so many bits is spelled
+pub unsigned_spelled : (more bits m : ℕ) → bits ≤ 7 * more + 7 → m < 2 ^ bits → SpellsUnsigned bits (unsigned_within more m) m
+unsigned_spelled zero bits m f l =
+    let k : 2 ^ bits ≤ 2 ^ 7 = pow_le bits 7 (omega arith) in
+    let low : m < 128 = omega arith in
+    subst (λ w. SpellsUnsigned bits w m) (sym (small_unsigned zero m low)) (low, sym (unsigned_some bits m l))
+unsigned_spelled (suc more) bits m f l =
+    elim (cases_lt m 128) [
+      | inl low ↦ subst (λ w. SpellsUnsigned bits w m) (sym (small_unsigned (suc more) m low)) (low, sym (unsigned_some bits m l))
+      | inr high ↦
+          let long : 7 < bits = elim (cases_lt 7 bits) [ inl w ↦ w | inr w ↦ let k : 2 ^ bits ≤ 2 ^ 7 = pow_le bits 7 w in absurd (omega arith) ] in
+          let seven : 2 ^ bits ≡ 128 * 2 ^ (bits - 7) = seven_more bits (omega arith) in
+          let fits : m / 128 < 2 ^ (bits - 7) = omega arith in
+          let again : m ≡ 128 * (m / 128) + (128 + m % 128 - 128) = omega arith in
+          subst (λ w. SpellsUnsigned bits w m) (sym (large_unsigned more m high))
+          (goes_on unsigned_last unsigned_joined bits (128 + m % 128) (unsigned_within more (m / 128)) (m / 128) m (omega arith) long again (unsigned_spelled more (bits - 7) (m / 128) (omega arith) fits))
+    ]
+
+-- what bytes spell is of so many bits
+pub unsigned_below : (bits : ℕ) (bytes : List ℕ) (n : ℕ) → AreBytes bytes → SpellsUnsigned bits bytes n → n < 2 ^ bits
+unsigned_below bits [] n a s = absurd s
+unsigned_below bits (b ∷ []) n a s = let p = last_unsigned bits b n s.1 in omega (arith, p.0, p.1)
+unsigned_below bits (b ∷ c ∷ bytes) n a s =
+    let h : ℕ = s.2 in
+    let r : h < 2 ^ (bits - 7) = unsigned_below (bits - 7) (c ∷ bytes) h a.1 s.3 in
+    let seven : 2 ^ bits ≡ 128 * 2 ^ (bits - 7) = seven_more bits (omega (arith, s.1)) in
+    let sum : n ≡ 128 * h + (b - 128) = s.4 in
+    let byte : b < 256 = a.0 in
+    omega arith
+
+-- ---- lengths
+
+zero_within : (n : ℕ) → unsigned_within zero n ≡ n ∷ []
+unfolding unsigned_within
+zero_within n = refl
+
+pub unsigned_nonempty : (more n : ℕ) → 1 ≤ length (unsigned_within more n)
+unsigned_nonempty zero n = omega (arith, ap length (zero_within n))
+unsigned_nonempty (suc more) n =
+    elim (cases_lt n 128) [
+      | inl low ↦ omega (arith, ap length (small_unsigned (suc more) n low))
+      | inr high ↦ omega (arith, ap length (large_unsigned more n high))
+    ]
+
+-- a number that is no larger has no more bytes, also where more are allowed for the other
+unsigned_order : (more n m : ℕ) → m ≤ n → length (unsigned_within more m) ≤ length (unsigned_within (suc more) n)
+unsigned_order zero n m l = omega (arith, ap length (zero_within m), unsigned_nonempty 1 n)
+unsigned_order (suc more) n m l =
+    elim (cases_lt m 128) [
+      | inl low ↦ omega (arith, ap length (small_unsigned (suc more) m low), unsigned_nonempty (suc (suc more)) n)
+      | inr high ↦
+          let r = unsigned_order more (n / 128) (m / 128) (omega arith) in
+          omega (arith, r, ap length (large_unsigned more m high), ap length (large_unsigned (suc more) n (omega arith)))
+    ]
+
+-- a sum has no more bytes than its parts together
+pub unsigned_sum : (more a b : ℕ) → length (unsigned_within more (a + b)) ≤ length (unsigned_within more a) + length (unsigned_within more b)
+unsigned_sum zero a b = omega (arith, ap length (zero_within (a + b)), unsigned_nonempty 0 a)
+unsigned_sum (suc more) a b =
+    elim (cases_lt (a + b) 128) [
+      | inl low ↦ omega (arith, ap length (small_unsigned (suc more) (a + b) low), unsigned_nonempty (suc more) a)
+      | inr high ↦
+          let long = ap length (large_unsigned more (a + b) high) in
+          elim (cases_lt a b) [
+            | inl less ↦ omega (arith, long, unsigned_order more b ((a + b) / 128) (omega arith), unsigned_nonempty (suc more) a)
+            | inr less ↦ omega (arith, long, unsigned_order more a ((a + b) / 128) (omega arith), unsigned_nonempty (suc more) b)
+          ]
+    ]
+
+-- ---- u32
+
+pub u32_least : (bytes : List ℕ) (n m : ℕ) → AreBytes bytes → SpellsU32 bytes n → m ≤ n → Least (λ a. SpellsU32 a m) bytes (shortest_unsigned m)
+unfolding shortest_unsigned
+u32_least bytes n m a s l = unsigned_least 9 32 bytes n m (omega arith) a s l
+
+pub u32_spelled : (n : ℕ) → n < 2 ^ 32 → SpellsU32 (shortest_unsigned n) n
+unfolding shortest_unsigned
+u32_spelled n l = unsigned_spelled 9 32 n (omega arith) l
+
+pub u32_sum : (a b : ℕ) → length (shortest_unsigned (a + b)) ≤ length (shortest_unsigned a) + length (shortest_unsigned b)
+unfolding shortest_unsigned
+u32_sum a b = unsigned_sum 9 a b
+
+-- ---- signed numbers
+
+-- the numbers that one byte spells, and the byte
+small_pos : (n : ℕ) → n < 64 → is_small (pos n) ≡ true
+small_pos n h = lt-ltb n 64 h
+
+small_neg : (n : ℕ) → n < 64 → is_small (negsuc n) ≡ true
+small_neg n h = ap (λ t. t && true) (le-leb n 63 (omega arith))
+
+large_pos : (n : ℕ) → 64 ≤ n → is_small (pos n) ≡ false
+large_pos n h = le-ltb n 64 h
+
+large_neg : (n : ℕ) → 64 ≤ n → is_small (negsuc n) ≡ false
+large_neg n h = ap (λ t. t && true) (lt-leb n 63 (omega arith))
+
+low_pos : (n : ℕ) → n < 64 → low_bits (pos n) ≡ n
+low_pos n h = omega arith
+
+low_neg : (n : ℕ) → n < 64 → low_bits (negsuc n) ≡ 127 - n
+low_neg n h = omega arith
+
+below_zero : (n : ℕ) → n < 128 → negsuc n ≡ pos (127 - n) -ℤ pos 128
+below_zero n h = omega (arith, ints)
+
+-- seven bits in front of a number, taken off again
+parts_again : (h : ℤ) (d : ℕ) → d < 128 → (int_div_euclid ((pos 128 *ℤ h) +ℤ pos d) (pos 128) ≡ h) × (low_bits ((pos 128 *ℤ h) +ℤ pos d) ≡ d)
+parts_again (pos k) d l = let e : (pos 128 *ℤ pos k) +ℤ pos d ≡ pos (128 * k + d) = omega (arith, ints) in
+    (ap (λ z. int_div_euclid z (pos 128)) e ∙ ap pos (omega arith), ap low_bits e ∙ omega arith)
+parts_again (negsuc k) d l = let e : (pos 128 *ℤ negsuc k) +ℤ pos d ≡ negsuc (128 * k + (127 - d)) = omega (arith, ints) in
+    (ap (λ z. int_div_euclid z (pos 128)) e ∙ ap negsuc (omega arith), ap low_bits e ∙ omega arith)
+
+small_signed : (more : ℕ) (z : ℤ) → is_small z ≡ true → signed_within more z ≡ low_bits z ∷ []
+unfolding signed_within
+small_signed zero z h = refl
+small_signed (suc more) z h = ap (λ t. cond t (low_bits z ∷ []) ((128 + low_bits z) ∷ signed_within more (int_div_euclid z (pos 128)))) h
+
+large_signed : (more : ℕ) (z : ℤ) → is_small z ≡ false → signed_within (suc more) z ≡ (128 + low_bits z) ∷ signed_within more (int_div_euclid z (pos 128))
+unfolding signed_within
+large_signed more z h = ap (λ t. cond t (low_bits z ∷ []) ((128 + low_bits z) ∷ signed_within more (int_div_euclid z (pos 128)))) h
+
+-- one byte spells a small number, where bits are enough
+small_spelled : (bits : ℕ) (z : ℤ) → 128 ≤ 2 ^ (bits - 1) → is_small z ≡ true → SpellsSigned bits (low_bits z ∷ []) z
+small_spelled bits (pos n) k h =
+    let l : n < 64 = elim (cases_lt n 64) [ inl w ↦ w | inr w ↦ let no : true ≡ false = sym h ∙ large_pos n w in absurd cc ] in
+    subst (λ b. SpellsSigned bits (b ∷ []) (pos n)) (sym (low_pos n l)) (omega arith, sym (signed_low bits n (pos n) refl l (omega arith)))
+small_spelled bits (negsuc n) k h =
+    let l : n < 64 = elim (cases_lt n 64) [ inl w ↦ w | inr w ↦ let no : true ≡ false = sym h ∙ large_neg n w in absurd cc ] in
+    subst (λ b. SpellsSigned bits (b ∷ []) (negsuc n)) (sym (low_neg n l)) (omega arith, sym (signed_high bits (127 - n) (negsuc n) (below_zero n (omega arith)) (omega arith) (omega arith)))
+
+-- what a last byte spells
+last_signed : (bits b : ℕ) (z : ℤ) → b < 128 → signed_last bits b ≡ Some z → (is_small z ≡ true) × (low_bits z ≡ b)
+last_signed bits b z l h =
+    elim (chosen (nat_lt b 64) (cond (nat_lt b (2 ^ (bits - 1))) (Some (pos b)) None) (cond (nat_le 128 (b + 2 ^ (bits - 1))) (Some (pos b -ℤ pos 128)) None) (Some z) h) [
+      | inl w ↦
+          let low : b < 64 = ltb-true b 64 w.0 in
+          elim (chosen (nat_lt b (2 ^ (bits - 1))) (Some (pos b)) None (Some z) w.1) [
+            | inl v ↦ let e : pos b ≡ z = some_is _ _ v.1 in (ap is_small (sym e) ∙ small_pos b low, ap low_bits (sym e) ∙ low_pos b low)
+            | inr v ↦ let no : None ≡ Some z = v.1 in absurd cc
+          ]
+      | inr w ↦
+          let high : 64 ≤ b = ltb-false b 64 w.0 in
+          elim (chosen (nat_le 128 (b + 2 ^ (bits - 1))) (Some (pos b -ℤ pos 128)) None (Some z) w.1) [
+            | inl v ↦
+                let e : negsuc (127 - b) ≡ z = below_zero (127 - b) (omega arith) ∙ ap (λ i. pos i -ℤ pos 128) (omega arith) ∙ some_is _ _ v.1 in
+                (ap is_small (sym e) ∙ small_neg (127 - b) (omega arith), ap low_bits (sym e) ∙ low_neg (127 - b) (omega arith) ∙ omega arith)
+            | inr v ↦ let no : None ≡ Some z = v.1 in absurd cc
+          ]
+    ]
+
+split_bool : (b : Bool) → (b ≡ true) ⊎ (b ≡ false)
+split_bool true = inl refl
+split_bool false = inr refl
+
+signed_least : (more bits : ℕ) (bytes : List ℕ) (z : ℤ) → bits ≤ 7 * more + 7 → AreBytes bytes → SpellsSigned bits bytes z → Least (λ a. SpellsSigned bits a z) bytes (signed_within more z)
+signed_least more bits [] z f a s = absurd s
+signed_least more bits (b ∷ []) z f a s =
+    let p = last_signed bits b z s.0 s.1 in
+    subst (λ w. Least (λ a. SpellsSigned bits a z) (b ∷ []) w) (sym (small_signed more z p.0 ∙ ap (λ c. c ∷ []) p.1)) (record { spells = s; least = omega arith })
+signed_least zero bits (b ∷ c ∷ bytes) z f a s = absurd (omega (arith, s.1))
+signed_least (suc more) bits (b ∷ c ∷ bytes) z f a s =
+    let h : ℤ = s.2 in
+    let sum : z ≡ (pos 128 *ℤ h) +ℤ pos (b - 128) = s.4 in
+    let byte : b < 256 = a.0 in
+    let from : 128 ≤ b = s.0 in
+    elim (split_bool (is_small z)) [
+      | inl low ↦
+          let seven : 2 ^ 7 ≤ 2 ^ (bits - 1) = pow_le 7 (bits - 1) (omega (arith, s.1)) in
+          subst (λ w. Least (λ a. SpellsSigned bits a z) (b ∷ c ∷ bytes) w) (sym (small_signed (suc more) z low)) (record { spells = small_spelled bits z seven low; least = omega arith })
+      | inr high ↦
+          let p = parts_again h (b - 128) (omega arith) in
+          let rest : int_div_euclid z (pos 128) ≡ h = ap (λ z. int_div_euclid z (pos 128)) sum ∙ p.0 in
+          let first : 128 + low_bits z ≡ b = ap (λ z. 128 + low_bits z) sum ∙ ap (λ n. 128 + n) p.1 ∙ omega arith in
+          let r = signed_least more (bits - 7) (c ∷ bytes) h (omega (arith, f)) a.1 s.3 in
+          let shorter : length (signed_within more h) ≤ length (c ∷ bytes) = r.least in
+          subst (λ w. Least (λ a. SpellsSigned bits a z) (b ∷ c ∷ bytes) w)
+          (sym (large_signed more z high ∙ ap (λ c. c ∷ signed_within more (int_div_euclid z (pos 128))) first ∙ ap (λ i. b ∷ signed_within more i) rest)) (record {
+            spells = goes_on signed_last signed_joined bits b (signed_within more h) h z from s.1 sum r.spells;
+            least = omega arith;
+          })
+    ]
+
+pub i32_least : (bytes : List ℕ) (z : ℤ) → AreBytes bytes → SpellsSigned 32 bytes z → Least (λ a. SpellsSigned 32 a z) bytes (shortest_signed z)
+unfolding shortest_signed
+i32_least bytes z a s = signed_least 9 32 bytes z (omega arith) a s
+
+pub i64_least : (bytes : List ℕ) (z : ℤ) → AreBytes bytes → SpellsSigned 64 bytes z → Least (λ a. SpellsSigned 64 a z) bytes (shortest_signed z)
+unfolding shortest_signed
+i64_least bytes z a s = signed_least 9 64 bytes z (omega arith) a s

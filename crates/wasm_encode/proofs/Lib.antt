@@ -1,0 +1,9 @@
+pub mod LeastNumbers
+pub mod LeastParts
+pub mod LeastTypes
+pub mod LeastInstrs
+pub mod LeastBodies
+pub mod LeastItems
+pub mod LeastGroups
+pub mod LeastSections
+pub mod LeastModule
