@@ -7,6 +7,8 @@ mod instrs;
 mod modules;
 mod numbers;
 mod parts;
+#[cfg(test)]
+mod tests;
 mod types;
 
 pub use modules::encode;
