@@ -7,3 +7,5 @@ pub mod LeastItems
 pub mod LeastGroups
 pub mod LeastSections
 pub mod LeastModule
+pub mod ShortestLemmas
+pub mod LeftLemmas

@@ -1,0 +1,19 @@
+use Rattle.std.proofs.Common.{ℕ, ◌<◌, ◌^◌, List, ◌≤◌, length}
+use Rattle.std.specs.List.{All}
+use Rattle.std.proofs.lemmas.Nat.{le-trans}
+use Rattle.wasm_ast.specs.Canon.{canon}
+use Rattle.wasm_ast.specs.declared.module.Module.{Module}
+use Rattle.wasm_decode.specs.Decodes.{SpellsModest}
+use Rattle.wasm_decode.proofs.DecodeRows.{module_comes}
+use Rattle.wasm_encode.proofs.LeastModule.{module_written}
+use Rattle.wasm_encode.proofs.decoded_is_read_back.Goals as goal
+
+modest : (bytes : List ℕ) (m : Module) → All (λ b. b < 2 ^ 8) bytes → SpellsModest bytes m → SpellsModest (canon m) m
+modest bytes m a (within, spells, floats, limits) =
+    let written = module_written bytes m a spells in (le-trans written.least within, written.spells, floats, limits)
+
+pub returns-clause-spelled : goal.returns-clause-spelled
+returns-clause-spelled c = modest
+
+pub returns-clause-answer : goal.returns-clause-answer
+returns-clause-answer c = λ bytes m result a h d. module_comes (canon m) (c.bytes_spell_one_module.ensures (canon m)) result d m (modest bytes m a h)
