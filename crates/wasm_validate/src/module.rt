@@ -11,25 +11,25 @@ use std::alloc::{AllocError, Global};
 use wasm_ast::{Code, Element, GlobalVar, Module, Segment, ValType};
 
 /// Whether a module is typed (3.4.10).
-pub fn is_module(alloc: Global, module: &Module) -> Result<bool, AllocError>
-    ensures { IfOk result (λ typed. typed ≡ is_typed module.now) }
+pub fn is_module(alloc: Global, checked: &Module) -> Result<bool, AllocError>
+    ensures { IfOk result (λ typed. typed ≡ is_typed checked.now) }
 {
-    let imports = module.imports.as_slice();
-    let functions = imported::functions(alloc, imports, module.functions.as_slice())?;
+    let imports = checked.imports.as_slice();
+    let functions = imported::functions(alloc, imports, checked.functions.as_slice())?;
     let imported = imported::globals(alloc, imports)?;
-    let globals = imported::all_globals(alloc, imported.as_slice(), module.globals.as_slice())?;
+    let globals = imported::all_globals(alloc, imported.as_slice(), checked.globals.as_slice())?;
     let context = Context {
-        types: module.types.as_slice(),
+        types: checked.types.as_slice(),
         functions: functions.as_slice(),
-        tables: imported::tables(imports) + module.tables.as_slice().len(),
-        memories: imported::memories(imports) + module.memories.as_slice().len(),
+        tables: imported::tables(imports) + checked.tables.as_slice().len(),
+        memories: imported::memories(imports) + checked.memories.as_slice().len(),
         globals: globals.as_slice(),
         params: &[],
         locals: &[],
         ends: &[],
         result: None,
     };
-    context.is_typed(alloc, imported.as_slice(), module)
+    context.is_typed(alloc, imported.as_slice(), checked)
 }
 
 impl Context<'_> {
@@ -38,30 +38,30 @@ impl Context<'_> {
         &self,
         alloc: Global,
         imported: &[(ValType, bool)],
-        module: &Module,
+        checked: &Module,
     ) -> Result<bool, AllocError>
-        requires context { context self.now ≡ context_of module.now }
-        requires imported { imported.now ≡ globals_of module.now.imports }
-        ensures { IfOk result (λ typed. typed ≡ is_typed module.now) }
+        requires context { context self.now ≡ context_of checked.now }
+        requires imported { imported.now ≡ globals_of checked.now.imports }
+        ensures { IfOk result (λ typed. typed ≡ is_typed checked.now) }
     {
-        if !self.is_declared(module) {
+        if !self.is_declared(checked) {
             return Ok(false);
         }
-        self.is_defined(alloc, imported, module)
+        self.is_defined(alloc, imported, checked)
     }
 
     /// Whether what the module declares without instructions is right.
-    fn is_declared(&self, module: &Module) -> bool
-        ensures { result ≡ is_declared (context self.now) module.now }
+    fn is_declared(&self, checked: &Module) -> bool
+        ensures { result ≡ is_declared (context self.now) checked.now }
     {
-        are_function_types(module.types.as_slice())
-            && are_imports(module)
-            && are_tables(module.tables.as_slice())
-            && are_memories(module.memories.as_slice())
+        are_function_types(checked.types.as_slice())
+            && are_imports(checked)
+            && are_tables(checked.tables.as_slice())
+            && are_memories(checked.memories.as_slice())
             && self.tables <= 1
             && self.memories <= 1
-            && self.are_exports(module.exports.as_slice())
-            && self.is_start(module.start)
+            && self.are_exports(checked.exports.as_slice())
+            && self.is_start(checked.start)
     }
 
     /// Whether what the module defines by instructions is right, and its exports have different names.
@@ -69,23 +69,27 @@ impl Context<'_> {
         &self,
         alloc: Global,
         imported: &[(ValType, bool)],
-        module: &Module,
+        checked: &Module,
     ) -> Result<bool, AllocError>
-        ensures { IfOk result (λ defined. defined ≡ is_defined (context self.now) imported.now module.now) }
+        ensures { IfOk result (λ defined. defined ≡ is_defined (context self.now) imported.now checked.now) }
     {
-        if !are_different(alloc, module.exports.as_slice())? {
+        if !are_different(alloc, checked.exports.as_slice())? {
             return Ok(false);
         }
-        if !self.are_globals(alloc, imported, module.globals.as_slice())? {
+        if !self.are_globals(alloc, imported, checked.globals.as_slice())? {
             return Ok(false);
         }
-        if !self.are_elements(alloc, module.elements.as_slice())? {
+        if !self.are_elements(alloc, checked.elements.as_slice())? {
             return Ok(false);
         }
-        if !self.are_segments(alloc, module.segments.as_slice())? {
+        if !self.are_segments(alloc, checked.segments.as_slice())? {
             return Ok(false);
         }
-        self.are_functions(alloc, module.functions.as_slice(), module.codes.as_slice())
+        self.are_functions(
+            alloc,
+            checked.functions.as_slice(),
+            checked.codes.as_slice(),
+        )
     }
 
     /// Whether the first value of each global is a constant of its type (3.4.4).

@@ -75,11 +75,11 @@ pub fn are_memories(memories: &[Limits]) -> bool
 }
 
 /// Whether a module may have such an import (3.4.9).
-fn is_import(module: &Module, kind: ImportKind) -> bool
-    ensures { result ≡ is_import module.now kind }
+fn is_import(checked: &Module, kind: ImportKind) -> bool
+    ensures { result ≡ is_import checked.now kind }
 {
     match kind {
-        ImportKind::Func(of) => (of as usize) < module.types.len(),
+        ImportKind::Func(of) => (of as usize) < checked.types.len(),
         ImportKind::Table(limits) => is_table(limits),
         ImportKind::Memory(limits) => is_memory(limits),
         ImportKind::Global { .. } => true,
@@ -87,11 +87,11 @@ fn is_import(module: &Module, kind: ImportKind) -> bool
 }
 
 /// Whether a module may have its imports (3.4.9).
-pub fn are_imports(module: &Module) -> bool
-    ensures { result ≡ list_all (λ (i : Import). is_import module.now i.kind) module.now.imports }
+pub fn are_imports(checked: &Module) -> bool
+    ensures { result ≡ list_all (λ (i : Import). is_import checked.now i.kind) checked.now.imports }
 {
-    for import in module.imports.as_slice() {
-        if !is_import(module, import.kind) {
+    for import in checked.imports.as_slice() {
+        if !is_import(checked, import.kind) {
             return false;
         }
     }

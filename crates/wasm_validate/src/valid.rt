@@ -64,13 +64,13 @@ impl Valid {
 /// The module, if it is typed (chapter 3, and the threads proposal). `Invalid` comes exactly where it
 /// isn't, `Memory` only for want of memory; both drop the module. An instruction on floating-point
 /// numbers is never typed, since it isn't kept which one it is.
-pub fn validate(alloc: Global, module: Module) -> Result<Valid, ValidateFault>
-    ensures valid { IfOk result (λ v. v ≡ «module») }
-    ensures valid_only { OnOk result (IsTrue (is_typed «module»)) }
-    ensures invalid_only { IfErr result (λ e. e ≡ ValidateFault.Invalid → is_typed «module» ≡ false) }
+pub fn validate(alloc: Global, checked: Module) -> Result<Valid, ValidateFault>
+    ensures valid { IfOk result (λ v. v ≡ checked) }
+    ensures valid_only { OnOk result (IsTrue (is_typed checked)) }
+    ensures invalid_only { IfErr result (λ e. e ≡ ValidateFault.Invalid → is_typed checked ≡ false) }
 {
-    if !is_module(alloc, &module)? {
+    if !is_module(alloc, &checked)? {
         return Err(ValidateFault::Invalid);
     }
-    Ok(Valid { module })
+    Ok(Valid { module: checked })
 }

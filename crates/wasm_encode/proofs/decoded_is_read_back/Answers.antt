@@ -1,6 +1,5 @@
-use Rattle.std.proofs.Common.{ℕ, ◌<◌, ◌^◌, List, ◌≤◌, length}
+use Rattle.std.proofs.Common.{ℕ, ◌<◌, ◌^◌, List, length, arith}
 use Rattle.std.specs.List.{All}
-use Rattle.std.proofs.lemmas.Nat.{le-trans}
 use Rattle.wasm_ast.specs.Canon.{canon}
 use Rattle.wasm_ast.specs.declared.module.Module.{Module}
 use Rattle.wasm_decode.specs.Decodes.{SpellsModest}
@@ -10,7 +9,7 @@ use Rattle.wasm_encode.proofs.decoded_is_read_back.Goals as goal
 
 modest : (bytes : List ℕ) (m : Module) → All (λ b. b < 2 ^ 8) bytes → SpellsModest bytes m → SpellsModest (canon m) m
 modest bytes m a (within, spells, floats, limits) =
-    let written = module_written bytes m a spells in (le-trans written.least within, written.spells, floats, limits)
+    let written = module_written bytes m a spells in (omega (arith, written.least, within), written.spells, floats, limits)
 
 pub returns-clause-spelled : goal.returns-clause-spelled
 returns-clause-spelled c = modest

@@ -5,4 +5,4 @@ use Rattle.wasm_ast.specs.TypingModule.{is_import}
 use Rattle.wasm_validate.proofs.rules.are_imports.Given as goal
 
 abbrev pub invariant-loop-import : goal.invariant-loop-import
-invariant-loop-import l = list_all (λ (i : Import). is_import l.module i.kind) (drop l.import-index l.import-items) ≡ list_all (λ (i : Import). is_import l.module i.kind) l.import-items
+invariant-loop-import l = list_all (λ (i : Import). is_import l.checked i.kind) (drop l.import-index l.import-items) ≡ list_all (λ (i : Import). is_import l.checked i.kind) l.import-items

@@ -2,10 +2,10 @@ use Rattle.std.proofs.Common.{List, [], ◌∷◌, ◌++◌, flat_map, subst, sy
 use Rattle.wasm_ast.specs.declared.instr.Instr.{Instr}
 use Rattle.wasm_ast.specs.Numbering.{names, IsNumbered}
 use Rattle.wasm_validate.proofs.NumberedLemmas.{numbered_two}
-use Rattle.wasm_validate.proofs.tests.block.Goals as goal
+use Rattle.wasm_validate.proofs.tests.bodies.block.Goals as goal
 
 pub new-requires : goal.new-requires
 new-requires c =
     let family : List (List Instr) → Type 0 = λ ls. IsNumbered ls in
     subst family (sym (c.in_ok-push.ensures.items ∙ ap (λ ls. ls ++ c.from_vec-2.result ∷ []) c.in_ok-lists.ensures))
-    (numbered_two c.from_vec.result c.from_vec-2.result (ap (flat_map names) c.from_vec.ensures ∙ c.in_ok-outer.ensures) (ap (flat_map names) c.from_vec-2.ensures ∙ c.in_ok-inner.ensures))
+    (numbered_two c.from_vec.result c.from_vec-2.result (ap (flat_map names) c.from_vec.ensures ∙ c.requires.outer) (ap (flat_map names) c.from_vec-2.ensures ∙ c.requires.inner))
