@@ -50,7 +50,7 @@ unfolding unsigned_within
 large_unsigned more n h = ap (λ t. cond t (n ∷ []) ((128 + n % 128) ∷ unsigned_within more (n / 128))) (le-ltb n 128 h)
 
 -- a number that is no larger than one that is spelled
-pub unsigned_least : (more bits : ℕ) (bytes : List ℕ) (n m : ℕ) → bits ≤ 7 * more + 7 → AreBytes bytes → SpellsUnsigned bits bytes n → m ≤ n →
+unsigned_least : (more bits : ℕ) (bytes : List ℕ) (n m : ℕ) → bits ≤ 7 * more + 7 → AreBytes bytes → SpellsUnsigned bits bytes n → m ≤ n →
     Least (λ a. SpellsUnsigned bits a m) bytes (unsigned_within more m)
 unsigned_least more bits [] n m f a s l = absurd s
 unsigned_least more bits (b ∷ []) n m f a s l =
@@ -81,7 +81,7 @@ unsigned_least (suc more) bits (b ∷ c ∷ bytes) n m f a s l =
     ]
 
 -- a number of so many bits is spelled
-pub unsigned_spelled : (more bits m : ℕ) → bits ≤ 7 * more + 7 → m < 2 ^ bits → SpellsUnsigned bits (unsigned_within more m) m
+unsigned_spelled : (more bits m : ℕ) → bits ≤ 7 * more + 7 → m < 2 ^ bits → SpellsUnsigned bits (unsigned_within more m) m
 unsigned_spelled zero bits m f l =
     let k : 2 ^ bits ≤ 2 ^ 7 = pow_le bits 7 (omega arith) in
     let low : m < 128 = omega arith in
@@ -98,25 +98,13 @@ unsigned_spelled (suc more) bits m f l =
           (goes_on unsigned_last unsigned_joined bits (128 + m % 128) (unsigned_within more (m / 128)) (m / 128) m (omega arith) long again (unsigned_spelled more (bits - 7) (m / 128) (omega arith) fits))
     ]
 
--- what bytes spell is of so many bits
-pub unsigned_below : (bits : ℕ) (bytes : List ℕ) (n : ℕ) → AreBytes bytes → SpellsUnsigned bits bytes n → n < 2 ^ bits
-unsigned_below bits [] n a s = absurd s
-unsigned_below bits (b ∷ []) n a s = let p = last_unsigned bits b n s.1 in omega (arith, p.0, p.1)
-unsigned_below bits (b ∷ c ∷ bytes) n a s =
-    let h : ℕ = s.2 in
-    let r : h < 2 ^ (bits - 7) = unsigned_below (bits - 7) (c ∷ bytes) h a.1 s.3 in
-    let seven : 2 ^ bits ≡ 128 * 2 ^ (bits - 7) = seven_more bits (omega (arith, s.1)) in
-    let sum : n ≡ 128 * h + (b - 128) = s.4 in
-    let byte : b < 256 = a.0 in
-    omega arith
-
 -- ---- lengths
 
 zero_within : (n : ℕ) → unsigned_within zero n ≡ n ∷ []
 unfolding unsigned_within
 zero_within n = refl
 
-pub unsigned_nonempty : (more n : ℕ) → 1 ≤ length (unsigned_within more n)
+unsigned_nonempty : (more n : ℕ) → 1 ≤ length (unsigned_within more n)
 unsigned_nonempty zero n = omega (arith, ap length (zero_within n))
 unsigned_nonempty (suc more) n =
     elim (cases_lt n 128) [
@@ -136,7 +124,7 @@ unsigned_order (suc more) n m l =
     ]
 
 -- a sum has no more bytes than its parts together
-pub unsigned_sum : (more a b : ℕ) → length (unsigned_within more (a + b)) ≤ length (unsigned_within more a) + length (unsigned_within more b)
+unsigned_sum : (more a b : ℕ) → length (unsigned_within more (a + b)) ≤ length (unsigned_within more a) + length (unsigned_within more b)
 unsigned_sum zero a b = omega (arith, ap length (zero_within (a + b)), unsigned_nonempty 0 a)
 unsigned_sum (suc more) a b =
     elim (cases_lt (a + b) 128) [
