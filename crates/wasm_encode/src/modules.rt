@@ -1,9 +1,7 @@
 // Modules: WebAssembly Core 1.0, section 5.5.
-ghost use Rattle.std.specs.Prelude.{◌≡◌, [], ◌++◌, IfOk, OnOk};
-ghost use Rattle.wasm_ast.specs.SpelledModule.{preamble};
+ghost use Rattle.std.specs.Prelude.{◌≡◌, ◌++◌, IfOk, OnOk};
 ghost use Rattle.wasm_ast.specs.CanonInstr.{canon_vec};
-ghost use Rattle.wasm_ast.specs.Shortest.{shortest_unsigned};
-ghost use Rattle.wasm_ast.specs.Canon.{canon_func_type, canon_import, canon_table, canon_memory, canon_global, canon_export, canon_element, canon_code, canon_segment, canon_section, canon_list, canon_start, canon};
+ghost use Rattle.wasm_ast.specs.Canon.{canon_table, canon_section, canon_list, canon_start, canon};
 
 use crate::numbers::write_unsigned;
 use crate::parts::{Write, write_byte, write_bytes, write_u32, write_vector};
@@ -78,8 +76,10 @@ fn write_start(alloc: Global, out: &mut Vec<u8>, start: Option<u32>) -> Result<(
 }
 
 /// The module in the binary format: with the shortest numbers, each run of equal local types as one
-/// group, no `else` before an empty list, and no empty and no custom section (5.5.15). `AllocError`
-/// is want of memory and nothing else.
+/// group, no `else` before an empty list, and no empty and no custom section (5.5.15). For each
+/// instruction on floating-point numbers, of which a module doesn't keep which one it is, the byte
+/// of `f32.eq` is written. Time and memory grow with the length of what is written. `AllocError` is
+/// want of memory and nothing else.
 pub fn encode(alloc: Global, source: &Module) -> Result<Bytes, AllocError>
     ensures { IfOk result (λ bytes. bytes ≡ canon source.now) }
 {

@@ -3,7 +3,9 @@ use super::*;
 use crate::numbers::{write_signed, write_unsigned};
 use std::alloc::{AllocError, Global};
 use std::test::Fail;
+use wasm_ast::{Body, Code, Export, ExportKind, FuncType, Items, Locals, Module};
 use wasm_reading::read;
+use wx_types::Bytes;
 
 /// Bytes of a module, and the bytes that are written for it.
 struct Case {
@@ -332,5 +334,55 @@ fn numbers(rt: HostRuntime) -> Result<(), Fail> {
     for (number, written) in &SIGNED {
         assert!(rt; writes_signed(rt.alloc(), *number, written)?);
     }
+    Ok(())
+}
+
+/// The body without instructions.
+fn empty_body(alloc: Global) -> Result<Body, AllocError> {
+    let mut lists = Vec::new(alloc);
+    lists.push(Items::new(alloc))?;
+    Ok(Body::new(lists))
+}
+
+/// A module of one function, without parameters, results, locals and instructions, that it exports
+/// by that name.
+fn one_function(alloc: Global, name: &[u8]) -> Result<Module, AllocError> {
+    let of = FuncType {
+        params: Items::new(alloc),
+        results: Items::new(alloc),
+    };
+    let export = Export {
+        name: Bytes::new(alloc, name)?,
+        kind: ExportKind::Func(0),
+    };
+    let code = Code {
+        locals: Locals::new(alloc),
+        body: empty_body(alloc)?,
+    };
+    let mut made = Module {
+        types: Items::new(alloc),
+        imports: Items::new(alloc),
+        functions: Items::new(alloc),
+        tables: Items::new(alloc),
+        memories: Items::new(alloc),
+        globals: Items::new(alloc),
+        exports: Items::new(alloc),
+        start: None,
+        elements: Items::new(alloc),
+        codes: Items::new(alloc),
+        segments: Items::new(alloc),
+    };
+    made.types.push(of)?;
+    made.functions.push(0)?;
+    made.exports.push(export)?;
+    made.codes.push(code)?;
+    Ok(made)
+}
+
+#[test]
+fn one_function_by_hand(rt: HostRuntime) -> Result<(), Fail> {
+    let made = one_function(rt.alloc(), b"_start")?;
+    let bytes = encode(rt.alloc(), &made)?;
+    assert!(rt; bytes.as_slice() == CASES[0].written);
     Ok(())
 }
