@@ -1,5 +1,5 @@
 -- What is kept of sequences of instructions.
-use Rattle.std.proofs.Common.{◌≡◌, ℕ, zero, suc, ◌+◌, ◌-◌, ◌<◌, ◌≤◌, Bool, true, false, ◌||◌, nat_lt, List, [], ◌∷◌, length, drop, get_or, set, Option, refl, sym, ap, subst, ◌∙◌, arith, ⊎_elim}
+use Rattle.std.proofs.Common.{◌≡◌, ℕ, zero, suc, ◌+◌, ◌-◌, ◌<◌, ◌≤◌, Bool, ◌||◌, nat_lt, List, ◌∷◌, length, drop, get_or, set, Option, refl, sym, ap, subst, ◌∙◌, arith, ⊎_elim}
 use Rattle.std.specs.Prelude.{min, max}
 use Rattle.std.specs.List.{list_any}
 use Rattle.std.proofs.lemmas.List.{drop_more, get_or-set_same, get_or-set_other}
@@ -14,7 +14,6 @@ use Rattle.wasm_ast.proofs.NumberingLemmas.{list_names}
 use Rattle.wasm_decode.specs.declared.summary.Summary.{Summary}
 use Rattle.wasm_decode.specs.Floats.{block_is_float, instruction_is_float, has_float}
 use Rattle.wasm_decode.specs.Nesting.{depth}
-use Rattle.wasm_decode.specs.Bounds.{is_deep}
 use Rattle.wasm_decode.specs.Summary.{summary, nothing, joined, enclosed, looked_up, own}
 
 pub capped_block : (d r : ℕ) → max (min 257 (1 + min 257 d)) (min 257 r) ≡ min 257 (max (1 + d) r)
