@@ -67,6 +67,7 @@ pub fn report<O: Sink, E: Sink>(
     ensures out_front { GrewByFront (O.taken out.old) (O.taken out.new) (printed Stream.Output journal.now) }
     ensures err_whole { (Rose (O.faults out.old) (O.faults out.new) → ⊥) → (Rose (E.faults err.old) (E.faults err.new) → ⊥) → E.taken err.new ≡ followed_by (E.taken err.old) (printed Stream.Errors journal.now ++ text_of reason) }
     ensures err_printed { (Rose (E.faults err.old) (E.faults err.new) → ⊥) → (E.taken err.new ≡ followed_by (E.taken err.old) (printed Stream.Errors journal.now)) ⊎ (E.taken err.new ≡ followed_by (E.taken err.old) (printed Stream.Errors journal.now ++ text_of reason)) }
+    ensures err_without_text { result ≡ Reason.WriteFault → (Rose (E.faults err.old) (E.faults err.new) → ⊥) → E.taken err.new ≡ followed_by (E.taken err.old) (printed Stream.Errors journal.now) }
     ensures err_front { GrewByFront (E.taken err.old) (E.taken err.new) (printed Stream.Errors journal.now ++ text_of reason) }
 {
     let out_taken = print(journal, Stream::Output, out);

@@ -142,6 +142,8 @@ pub fn wasix_serial<H: Shelf, I: Source, O: Sink, E: Sink>(
     // Where no sink failed, the text of the reason stands behind the errors.
     ensures errors { (Rose (O.faults out) (O.faults result.out) → ⊥) → (Rose (E.faults err) (E.faults result.err) → ⊥) → E.taken result.err ≡ followed_by (E.taken err) (printed Stream.Errors result.journal ++ text_of result.reason) }
     ensures errors_but_text { (Rose (E.faults err) (E.faults result.err) → ⊥) → (reason : Reason) × ((E.taken result.err ≡ followed_by (E.taken err) (printed Stream.Errors result.journal)) ⊎ (E.taken result.err ≡ followed_by (E.taken err) (printed Stream.Errors result.journal ++ text_of reason))) }
+    // After a stream that failed, the errors have taken no text: the output was written first.
+    ensures errors_without_text { result.reason ≡ Reason.WriteFault → (Rose (E.faults err) (E.faults result.err) → ⊥) → E.taken result.err ≡ followed_by (E.taken err) (printed Stream.Errors result.journal) }
     ensures errors_front { (reason : Reason) × GrewByFront (E.taken err) (E.taken result.err) (printed Stream.Errors result.journal ++ text_of reason) }
 
     // It exited exactly where the run ended so and no sink failed.

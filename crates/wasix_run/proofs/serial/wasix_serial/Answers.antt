@@ -34,6 +34,14 @@ returns-clause-errors_but_text g c = λ sound.
       ],
     )
 
+pub returns-clause-errors_without_text : goal.returns-clause-errors_without_text
+returns-clause-errors_without_text g c = λ e sound.
+    let taken = ap g.E.Sink.taken c.make_ended.ensures.err in
+    let faults = ap g.E.Sink.faults c.make_ended.ensures.err in
+    taken
+    ∙ c.report-reason.ensures.err_without_text (sym c.make_ended.ensures.reason ∙ e) (λ rose. sound (subst (λ n. Rose (g.E.Sink.faults c.args.err) n) (sym faults) rose))
+    ∙ ap (λ (j : List Entry). followed_by (g.E.Sink.taken c.args.err) (printed Errors j)) (sym c.make_ended.ensures.journal)
+
 pub returns-clause-exited : goal.returns-clause-exited
 returns-clause-exited g c = λ files code held.
     subst (λ (r : Reason). ComesUnwritten r (Exited code) (RunEnds (map string_bytes c.args.words.now) files c.make_ended.result.journal (ExitedEnd code))) (sym c.make_ended.ensures.reason)
