@@ -10,7 +10,7 @@ use Rattle.wasm_decode.specs.declared.fault.ThinFault.{ThinFault}
 use Rattle.wasm_decode.specs.declared.fault.ThinFault.TheVariants.{Malformed, NotYet, Memory}
 use Rattle.wasm_decode.specs.ThinModule.{ThinModule, HasFewPages}
 use Rattle.wasm_decode.specs.declared.thin.ThinMemory.{ThinMemory}
-use Rattle.wasm_decode.specs.ThinGrammar.{Export, Parts, IsInRange, IsMemory, IsThin, SpellsParts, SpellsSections, module_of}
+use Rattle.wasm_decode.specs.ThinGrammar.{Export, Parts, IsInRange, IsMemory, IsThin, SpellsSections, module_of}
 use Rattle.wasm_decode.specs.Reading.{Fails, all_at, parts_at}
 use Rattle.wasm_decode.specs.Answer.{Answers}
 use Rattle.wasm_decode.specs.Views.{export_view, export_views, parts_view, PartsFit}

@@ -583,6 +583,63 @@ fn million_blocks(alloc: Global) -> Result<bool, AllocError> {
     )
 }
 
+/// A module that ends with 7, up to its function section.
+const SEVEN: &[u8] = b"\x00asm\x01\x00\x00\x00\x01\x08\x02\x60\x01\x7f\x00\x60\x00\x00\
+    \x02\x24\x01\x16wasi_snapshot_preview1\x09proc_exit\x00\x00";
+
+/// Its function and code sections: as it is; cut by its last byte; with its constant in five bytes; with
+/// a further function that has a float; and that cut by its last byte.
+const SHORT: [(&[u8], &[u8], Answer); 5] = [
+    (
+        b"\x03\x02\x01\x01",
+        b"\x0a\x08\x01\x06\x00\x41\x07\x10\x00\x0b",
+        Answer::Module,
+    ),
+    (
+        b"\x03\x02\x01\x01",
+        b"\x0a\x08\x01\x06\x00\x41\x07\x10\x00",
+        Answer::Malformed,
+    ),
+    (
+        b"\x03\x02\x01\x01",
+        b"\x0a\x0c\x01\x0a\x00\x41\x87\x80\x80\x80\x00\x10\x00\x0b",
+        Answer::Module,
+    ),
+    (
+        b"\x03\x03\x02\x01\x01",
+        b"\x0a\x15\x02\x06\x00\x41\x07\x10\x00\x0b\x0c\x00\x44\x00\x00\x00\x00\x00\x00\x00\x00\x1a\x0b",
+        Answer::Float,
+    ),
+    (
+        b"\x03\x03\x02\x01\x01",
+        b"\x0a\x15\x02\x06\x00\x41\x07\x10\x00\x0b\x0c\x00\x44\x00\x00\x00\x00\x00\x00\x00\x00\x1a",
+        Answer::Malformed,
+    ),
+];
+
+/// Whether short modules are told apart; a body is read whether or not its instructions find operands.
+fn short_modules(alloc: Global) -> Result<bool, AllocError> {
+    for (functions, codes, wanted) in SHORT {
+        let mut bytes = Vec::from_slice(alloc, SEVEN)?;
+        bytes.extend_from_slice(functions)?;
+        bytes.extend_from_slice(b"\x07\x0a\x01\x06_start\x00\x01")?;
+        bytes.extend_from_slice(codes)?;
+        if outcome(alloc, &bytes)? != wanted {
+            return Ok(false);
+        }
+    }
+    Ok(
+        outcome_of_body(alloc, b"\x02\x40\x0c\x00\x6a\x1a\x0b\x0b")? == Answer::Module
+            && outcome_of_body(alloc, b"\x6a\x1a\x0b")? == Answer::Module,
+    )
+}
+
+#[test]
+fn short_modules_are_told_apart(rt: HostRuntime) -> Result<(), Fail> {
+    assert!(rt; short_modules(rt.alloc())?);
+    Ok(())
+}
+
 #[test]
 fn fronts_of_a_module(rt: HostRuntime) -> Result<(), Fail> {
     assert!(rt; fronts(rt.alloc())?);
