@@ -9,6 +9,7 @@ use Rattle.std.proofs.lemmas.Int.{ints}
 use Rattle.std.specs.Int.{int_div_euclid}
 use Rattle.wasm_ast.specs.Shortest.{unsigned_within, shortest_unsigned, signed_within, shortest_signed, is_small, low_bits}
 use Rattle.wasm_ast.specs.Spelling.{SpellsU32}
+use Rattle.wasm_encode.proofs.ShortestLemmas.{unsigned_small, unsigned_large, signed_small, signed_large}
 
 -- each is a byte
 abbrev pub AreBytes : List ℕ → Type 0
@@ -40,15 +41,6 @@ last_unsigned bits b n h =
       | inr w ↦ let no : None ≡ Some n = w.1 in absurd cc
     ]
 
-small_unsigned : (more n : ℕ) → n < 128 → unsigned_within more n ≡ n ∷ []
-unfolding unsigned_within
-small_unsigned zero n h = refl
-small_unsigned (suc more) n h = ap (λ t. cond t (n ∷ []) ((128 + n % 128) ∷ unsigned_within more (n / 128))) (lt-ltb n 128 h)
-
-large_unsigned : (more n : ℕ) → 128 ≤ n → unsigned_within (suc more) n ≡ (128 + n % 128) ∷ unsigned_within more (n / 128)
-unfolding unsigned_within
-large_unsigned more n h = ap (λ t. cond t (n ∷ []) ((128 + n % 128) ∷ unsigned_within more (n / 128))) (le-ltb n 128 h)
-
 -- a number that is no larger than one that is spelled
 unsigned_least : (more bits : ℕ) (bytes : List ℕ) (n m : ℕ) → bits ≤ 7 * more + 7 → AreBytes bytes → SpellsUnsigned bits bytes n → m ≤ n →
     Least (λ a. SpellsUnsigned bits a m) bytes (unsigned_within more m)
@@ -57,7 +49,7 @@ unsigned_least more bits (b ∷ []) n m f a s l =
     let p = last_unsigned bits b n s.1 in
     let low : m < 128 = omega (arith, s.0, p.1) in
     let fits : m < 2 ^ bits = omega (arith, p.0, p.1) in
-    subst (λ w. Least (λ a. SpellsUnsigned bits a m) (b ∷ []) w) (sym (small_unsigned more m low)) (record { spells = (low, sym (unsigned_some bits m fits)); least = omega arith })
+    subst (λ w. Least (λ a. SpellsUnsigned bits a m) (b ∷ []) w) (sym (unsigned_small more m low)) (record { spells = (low, sym (unsigned_some bits m fits)); least = omega arith })
 unsigned_least zero bits (b ∷ c ∷ bytes) n m f a s l = absurd (omega (arith, s.1))
 unsigned_least (suc more) bits (b ∷ c ∷ bytes) n m f a s l =
     let h : ℕ = s.2 in
@@ -67,14 +59,14 @@ unsigned_least (suc more) bits (b ∷ c ∷ bytes) n m f a s l =
       | inl low ↦
           let seven : 2 ^ 7 ≤ 2 ^ bits = pow_le 7 bits (omega (arith, s.1)) in
           let fits : m < 2 ^ bits = omega arith in
-          subst (λ w. Least (λ a. SpellsUnsigned bits a m) (b ∷ c ∷ bytes) w) (sym (small_unsigned (suc more) m low)) (record { spells = (low, sym (unsigned_some bits m fits)); least = omega arith })
+          subst (λ w. Least (λ a. SpellsUnsigned bits a m) (b ∷ c ∷ bytes) w) (sym (unsigned_small (suc more) m low)) (record { spells = (low, sym (unsigned_some bits m fits)); least = omega arith })
       | inr high ↦
           let few : bits - 7 ≤ 7 * more + 7 = omega (arith, f) in
           let part : m / 128 ≤ h = omega arith in
           let r = unsigned_least more (bits - 7) (c ∷ bytes) h (m / 128) few a.1 s.3 part in
           let again : m ≡ 128 * (m / 128) + (128 + m % 128 - 128) = omega arith in
           let shorter : length (unsigned_within more (m / 128)) ≤ length (c ∷ bytes) = r.least in
-          subst (λ w. Least (λ a. SpellsUnsigned bits a m) (b ∷ c ∷ bytes) w) (sym (large_unsigned more m high)) (record {
+          subst (λ w. Least (λ a. SpellsUnsigned bits a m) (b ∷ c ∷ bytes) w) (sym (unsigned_large more m high)) (record {
             spells = goes_on unsigned_last unsigned_joined bits (128 + m % 128) (unsigned_within more (m / 128)) (m / 128) m (omega arith) s.1 again r.spells;
             least = omega arith;
           })
@@ -85,16 +77,16 @@ unsigned_spelled : (more bits m : ℕ) → bits ≤ 7 * more + 7 → m < 2 ^ bit
 unsigned_spelled zero bits m f l =
     let k : 2 ^ bits ≤ 2 ^ 7 = pow_le bits 7 (omega arith) in
     let low : m < 128 = omega arith in
-    subst (λ w. SpellsUnsigned bits w m) (sym (small_unsigned zero m low)) (low, sym (unsigned_some bits m l))
+    subst (λ w. SpellsUnsigned bits w m) (sym (unsigned_small zero m low)) (low, sym (unsigned_some bits m l))
 unsigned_spelled (suc more) bits m f l =
     elim (cases_lt m 128) [
-      | inl low ↦ subst (λ w. SpellsUnsigned bits w m) (sym (small_unsigned (suc more) m low)) (low, sym (unsigned_some bits m l))
+      | inl low ↦ subst (λ w. SpellsUnsigned bits w m) (sym (unsigned_small (suc more) m low)) (low, sym (unsigned_some bits m l))
       | inr high ↦
           let long : 7 < bits = elim (cases_lt 7 bits) [ inl w ↦ w | inr w ↦ let k : 2 ^ bits ≤ 2 ^ 7 = pow_le bits 7 w in absurd (omega arith) ] in
           let seven : 2 ^ bits ≡ 128 * 2 ^ (bits - 7) = seven_more bits (omega arith) in
           let fits : m / 128 < 2 ^ (bits - 7) = omega arith in
           let again : m ≡ 128 * (m / 128) + (128 + m % 128 - 128) = omega arith in
-          subst (λ w. SpellsUnsigned bits w m) (sym (large_unsigned more m high))
+          subst (λ w. SpellsUnsigned bits w m) (sym (unsigned_large more m high))
           (goes_on unsigned_last unsigned_joined bits (128 + m % 128) (unsigned_within more (m / 128)) (m / 128) m (omega arith) long again (unsigned_spelled more (bits - 7) (m / 128) (omega arith) fits))
     ]
 
@@ -108,8 +100,8 @@ unsigned_nonempty : (more n : ℕ) → 1 ≤ length (unsigned_within more n)
 unsigned_nonempty zero n = omega (arith, ap length (zero_within n))
 unsigned_nonempty (suc more) n =
     elim (cases_lt n 128) [
-      | inl low ↦ omega (arith, ap length (small_unsigned (suc more) n low))
-      | inr high ↦ omega (arith, ap length (large_unsigned more n high))
+      | inl low ↦ omega (arith, ap length (unsigned_small (suc more) n low))
+      | inr high ↦ omega (arith, ap length (unsigned_large more n high))
     ]
 
 -- a number that is no larger has no more bytes, also where more are allowed for the other
@@ -117,10 +109,10 @@ unsigned_order : (more n m : ℕ) → m ≤ n → length (unsigned_within more m
 unsigned_order zero n m l = omega (arith, ap length (zero_within m), unsigned_nonempty 1 n)
 unsigned_order (suc more) n m l =
     elim (cases_lt m 128) [
-      | inl low ↦ omega (arith, ap length (small_unsigned (suc more) m low), unsigned_nonempty (suc (suc more)) n)
+      | inl low ↦ omega (arith, ap length (unsigned_small (suc more) m low), unsigned_nonempty (suc (suc more)) n)
       | inr high ↦
           let r = unsigned_order more (n / 128) (m / 128) (omega arith) in
-          omega (arith, r, ap length (large_unsigned more m high), ap length (large_unsigned (suc more) n (omega arith)))
+          omega (arith, r, ap length (unsigned_large more m high), ap length (unsigned_large (suc more) n (omega arith)))
     ]
 
 -- a sum has no more bytes than its parts together
@@ -128,9 +120,9 @@ unsigned_sum : (more a b : ℕ) → length (unsigned_within more (a + b)) ≤ le
 unsigned_sum zero a b = omega (arith, ap length (zero_within (a + b)), unsigned_nonempty 0 a)
 unsigned_sum (suc more) a b =
     elim (cases_lt (a + b) 128) [
-      | inl low ↦ omega (arith, ap length (small_unsigned (suc more) (a + b) low), unsigned_nonempty (suc more) a)
+      | inl low ↦ omega (arith, ap length (unsigned_small (suc more) (a + b) low), unsigned_nonempty (suc more) a)
       | inr high ↦
-          let long = ap length (large_unsigned more (a + b) high) in
+          let long = ap length (unsigned_large more (a + b) high) in
           elim (cases_lt a b) [
             | inl less ↦ omega (arith, long, unsigned_order more b ((a + b) / 128) (omega arith), unsigned_nonempty (suc more) a)
             | inr less ↦ omega (arith, long, unsigned_order more a ((a + b) / 128) (omega arith), unsigned_nonempty (suc more) b)
@@ -182,15 +174,6 @@ parts_again (pos k) d l = let e : (pos 128 *ℤ pos k) +ℤ pos d ≡ pos (128 *
 parts_again (negsuc k) d l = let e : (pos 128 *ℤ negsuc k) +ℤ pos d ≡ negsuc (128 * k + (127 - d)) = omega (arith, ints) in
     (ap (λ z. int_div_euclid z (pos 128)) e ∙ ap negsuc (omega arith), ap low_bits e ∙ omega arith)
 
-small_signed : (more : ℕ) (z : ℤ) → is_small z ≡ true → signed_within more z ≡ low_bits z ∷ []
-unfolding signed_within
-small_signed zero z h = refl
-small_signed (suc more) z h = ap (λ t. cond t (low_bits z ∷ []) ((128 + low_bits z) ∷ signed_within more (int_div_euclid z (pos 128)))) h
-
-large_signed : (more : ℕ) (z : ℤ) → is_small z ≡ false → signed_within (suc more) z ≡ (128 + low_bits z) ∷ signed_within more (int_div_euclid z (pos 128))
-unfolding signed_within
-large_signed more z h = ap (λ t. cond t (low_bits z ∷ []) ((128 + low_bits z) ∷ signed_within more (int_div_euclid z (pos 128)))) h
-
 -- one byte spells a small number, where bits are enough
 small_spelled : (bits : ℕ) (z : ℤ) → 128 ≤ 2 ^ (bits - 1) → is_small z ≡ true → SpellsSigned bits (low_bits z ∷ []) z
 small_spelled bits (pos n) k h =
@@ -228,7 +211,7 @@ signed_least : (more bits : ℕ) (bytes : List ℕ) (z : ℤ) → bits ≤ 7 * m
 signed_least more bits [] z f a s = absurd s
 signed_least more bits (b ∷ []) z f a s =
     let p = last_signed bits b z s.0 s.1 in
-    subst (λ w. Least (λ a. SpellsSigned bits a z) (b ∷ []) w) (sym (small_signed more z p.0 ∙ ap (λ c. c ∷ []) p.1)) (record { spells = s; least = omega arith })
+    subst (λ w. Least (λ a. SpellsSigned bits a z) (b ∷ []) w) (sym (signed_small more z p.0 ∙ ap (λ c. c ∷ []) p.1)) (record { spells = s; least = omega arith })
 signed_least zero bits (b ∷ c ∷ bytes) z f a s = absurd (omega (arith, s.1))
 signed_least (suc more) bits (b ∷ c ∷ bytes) z f a s =
     let h : ℤ = s.2 in
@@ -238,7 +221,7 @@ signed_least (suc more) bits (b ∷ c ∷ bytes) z f a s =
     elim (split_bool (is_small z)) [
       | inl low ↦
           let seven : 2 ^ 7 ≤ 2 ^ (bits - 1) = pow_le 7 (bits - 1) (omega (arith, s.1)) in
-          subst (λ w. Least (λ a. SpellsSigned bits a z) (b ∷ c ∷ bytes) w) (sym (small_signed (suc more) z low)) (record { spells = small_spelled bits z seven low; least = omega arith })
+          subst (λ w. Least (λ a. SpellsSigned bits a z) (b ∷ c ∷ bytes) w) (sym (signed_small (suc more) z low)) (record { spells = small_spelled bits z seven low; least = omega arith })
       | inr high ↦
           let p = parts_again h (b - 128) (omega arith) in
           let rest : int_div_euclid z (pos 128) ≡ h = ap (λ z. int_div_euclid z (pos 128)) sum ∙ p.0 in
@@ -246,7 +229,7 @@ signed_least (suc more) bits (b ∷ c ∷ bytes) z f a s =
           let r = signed_least more (bits - 7) (c ∷ bytes) h (omega (arith, f)) a.1 s.3 in
           let shorter : length (signed_within more h) ≤ length (c ∷ bytes) = r.least in
           subst (λ w. Least (λ a. SpellsSigned bits a z) (b ∷ c ∷ bytes) w)
-          (sym (large_signed more z high ∙ ap (λ c. c ∷ signed_within more (int_div_euclid z (pos 128))) first ∙ ap (λ i. b ∷ signed_within more i) rest)) (record {
+          (sym (signed_large more z high ∙ ap (λ c. c ∷ signed_within more (int_div_euclid z (pos 128))) first ∙ ap (λ i. b ∷ signed_within more i) rest)) (record {
             spells = goes_on signed_last signed_joined bits b (signed_within more h) h z from s.1 sum r.spells;
             least = omega arith;
           })

@@ -1,3 +1,4 @@
+pub mod ShortestLemmas
 pub mod LeastNumbers
 pub mod LeastParts
 pub mod LeastTypes
@@ -7,5 +8,4 @@ pub mod LeastItems
 pub mod LeastGroups
 pub mod LeastSections
 pub mod LeastModule
-pub mod ShortestLemmas
 pub mod LeftLemmas

@@ -1,4 +1,4 @@
-use Rattle.std.proofs.Common.{ℕ, ◌<◌, ◌^◌, List, length, arith}
+use Rattle.std.proofs.Common.{ℕ, ◌<◌, ◌^◌, List, arith}
 use Rattle.std.specs.List.{All}
 use Rattle.wasm_ast.specs.Canon.{canon}
 use Rattle.wasm_ast.specs.declared.module.Module.{Module}
