@@ -21,5 +21,5 @@ pub use locals::{LocalGroup, Locals};
 pub use module::{
     Code, Element, Export, ExportKind, GlobalVar, Import, ImportKind, Module, Segment,
 };
-pub use opcode::{ATOMIC_OPCODES, AtomicOpcode, OPCODES, Opcode};
+pub use opcode::{ATOMIC_OPCODES, AtomicOpcode, OPCODES, Opcode, opcodes_are_encodings};
 pub use types::{FuncType, IntType, Limits, ValType};
