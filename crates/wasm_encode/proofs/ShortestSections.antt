@@ -5,8 +5,8 @@ use Rattle.byte_cursor.proofs.Laws.{chosen}
 use Rattle.wasm_ast.specs.Canon.{canon_section}
 use Rattle.wasm_ast.specs.Spelling.{SpellsEach, SpellsBytes}
 use Rattle.wasm_ast.specs.SpelledModule.{Section, SpellsSection, InOrder, content_of}
-use Rattle.wasm_encode.proofs.LeastNumbers.{AreBytes, bytes_split, Least, some_is}
-use Rattle.wasm_encode.proofs.LeastParts.{content_least, content_bytes}
+use Rattle.wasm_encode.proofs.ShortestNumbers.{AreBytes, bytes_split, NoLonger, some_is}
+use Rattle.wasm_encode.proofs.ShortestVectors.{content_shortest, content_bytes}
 
 -- the sections of the contents at the numbers from one on, none where there is none
 abbrev pub sections_from : ℕ → List (Option (List ℕ)) → List Section
@@ -163,24 +163,24 @@ covered_same : (slots : List (Option (List ℕ))) (next : ℕ) (later ss : List 
 covered_same [] next later ss e c = tt
 covered_same (slot ∷ slots) next later ss e c = (subst (λ o. Fits slot o) (sym (e next (omega arith))) c.0, covered_same slots (suc next) later ss (λ id l. e id (omega (arith, l))) c.1)
 
-slot_least : (next : ℕ) (slot : Option (List ℕ)) (slots : List (Option (List ℕ))) (body rest : List ℕ) (o : Option (List ℕ)) → Fits slot o → Size rest (length body) o →
-    Least (λ a. SpellsEach SpellsSection a (sections_from (suc next) slots)) rest (written_from (suc next) slots) → Least (λ a. SpellsEach SpellsSection a (sections_from next (slot ∷ slots))) body (written_from next (slot ∷ slots))
-slot_least next None slots body rest o f s r = record { spells = r.spells; least = omega (arith, r.least, size_rest rest (length body) o s) }
-slot_least next (Some v) slots body rest None f s r = absurd f
-slot_least next (Some v) slots body rest (Some content) f s r =
-    let p = content_least s.0 content v s.1 s.2 f in
+slot_shortest : (next : ℕ) (slot : Option (List ℕ)) (slots : List (Option (List ℕ))) (body rest : List ℕ) (o : Option (List ℕ)) → Fits slot o → Size rest (length body) o →
+    NoLonger (λ a. SpellsEach SpellsSection a (sections_from (suc next) slots)) rest (written_from (suc next) slots) → NoLonger (λ a. SpellsEach SpellsSection a (sections_from next (slot ∷ slots))) body (written_from next (slot ∷ slots))
+slot_shortest next None slots body rest o f s r = record { spells = r.spells; shorter = omega (arith, r.shorter, size_rest rest (length body) o s) }
+slot_shortest next (Some v) slots body rest None f s r = absurd f
+slot_shortest next (Some v) slots body rest (Some content) f s r =
+    let p = content_shortest s.0 content v s.1 s.2 f in
     record {
       spells = record { front = canon_section next v; back = written_from (suc next) slots; parts = refl; first = (refl, p.spells); second = r.spells };
-      least = omega (arith, r.least, p.least, s.3, length-append (canon_section next v) (written_from (suc next) slots));
+      shorter = omega (arith, r.shorter, p.shorter, s.3, length-append (canon_section next v) (written_from (suc next) slots));
     }
 
-pub slots_least : (slots : List (Option (List ℕ))) (next : ℕ) (ss : List Section) (body : List ℕ) → 0 < next → AreBytes body → SpellsEach SpellsSection body ss → InOrder next ss → Covered next ss slots →
-    Least (λ a. SpellsEach SpellsSection a (sections_from next slots)) body (written_from next slots)
-slots_least [] next ss body p a j o c = record { spells = refl; least = omega arith }
-slots_least (slot ∷ slots) next ss body p a j o c =
+pub slots_shortest : (slots : List (Option (List ℕ))) (next : ℕ) (ss : List Section) (body : List ℕ) → 0 < next → AreBytes body → SpellsEach SpellsSection body ss → InOrder next ss → Covered next ss slots →
+    NoLonger (λ a. SpellsEach SpellsSection a (sections_from next slots)) body (written_from next slots)
+slots_shortest [] next ss body p a j o c = record { spells = refl; shorter = omega arith }
+slots_shortest (slot ∷ slots) next ss body p a j o c =
     let b = later_at ss next body p a j o in
-    let r = slots_least slots (suc next) b.later b.rest (omega arith) b.are b.spelled b.order (covered_same slots (suc next) b.later ss (λ id l. b.same id (omega (arith, l))) c.1) in
-    slot_least next slot slots body b.rest (content_of next ss) c.0 b.size r
+    let r = slots_shortest slots (suc next) b.later b.rest (omega arith) b.are b.spelled b.order (covered_same slots (suc next) b.later ss (λ id l. b.same id (omega (arith, l))) c.1) in
+    slot_shortest next slot slots body b.rest (content_of next ss) c.0 b.size r
 
 -- the content of a section are bytes
 pub contents_bytes : (ss : List Section) (body : List ℕ) (id : ℕ) (content : List ℕ) → AreBytes body → SpellsEach SpellsSection body ss → content_of id ss ≡ Some content → AreBytes content

@@ -9,7 +9,7 @@ use Rattle.std.proofs.lemmas.Int.{ints}
 use Rattle.std.specs.Int.{int_div_euclid}
 use Rattle.wasm_ast.specs.Shortest.{unsigned_within, shortest_unsigned, signed_within, shortest_signed, is_small, low_bits}
 use Rattle.wasm_ast.specs.Spelling.{SpellsU32}
-use Rattle.wasm_encode.proofs.ShortestLemmas.{unsigned_small, unsigned_large, signed_small, signed_large}
+use Rattle.wasm_encode.proofs.NumberSteps.{unsigned_small, unsigned_large, signed_small, signed_large}
 
 -- each is a byte
 abbrev pub AreBytes : List ℕ → Type 0
@@ -20,9 +20,9 @@ bytes_split [] ys h = (tt, h)
 bytes_split (x ∷ xs) ys h = let r = bytes_split xs ys h.1 in ((h.0, r.0), r.1)
 
 -- what is written has the property that the bytes have, and is no longer
-pub record Least (P : List ℕ → Type 0) (bytes written : List ℕ) : Type 0 where
+pub record NoLonger (P : List ℕ → Type 0) (bytes written : List ℕ) : Type 0 where
   pub spells : P written
-  pub least : length written ≤ length bytes
+  pub shorter : length written ≤ length bytes
 
 pub some_is : {A : Type 0} (x y : A) → Some x ≡ Some y → x ≡ y
 some_is x y e = cc
@@ -42,16 +42,16 @@ last_unsigned bits b n h =
     ]
 
 -- a number that is no larger than one that is spelled
-unsigned_least : (more bits : ℕ) (bytes : List ℕ) (n m : ℕ) → bits ≤ 7 * more + 7 → AreBytes bytes → SpellsUnsigned bits bytes n → m ≤ n →
-    Least (λ a. SpellsUnsigned bits a m) bytes (unsigned_within more m)
-unsigned_least more bits [] n m f a s l = absurd s
-unsigned_least more bits (b ∷ []) n m f a s l =
+unsigned_shortest : (more bits : ℕ) (bytes : List ℕ) (n m : ℕ) → bits ≤ 7 * more + 7 → AreBytes bytes → SpellsUnsigned bits bytes n → m ≤ n →
+    NoLonger (λ a. SpellsUnsigned bits a m) bytes (unsigned_within more m)
+unsigned_shortest more bits [] n m f a s l = absurd s
+unsigned_shortest more bits (b ∷ []) n m f a s l =
     let p = last_unsigned bits b n s.1 in
     let low : m < 128 = omega (arith, s.0, p.1) in
     let fits : m < 2 ^ bits = omega (arith, p.0, p.1) in
-    subst (λ w. Least (λ a. SpellsUnsigned bits a m) (b ∷ []) w) (sym (unsigned_small more m low)) (record { spells = (low, sym (unsigned_some bits m fits)); least = omega arith })
-unsigned_least zero bits (b ∷ c ∷ bytes) n m f a s l = absurd (omega (arith, s.1))
-unsigned_least (suc more) bits (b ∷ c ∷ bytes) n m f a s l =
+    subst (λ w. NoLonger (λ a. SpellsUnsigned bits a m) (b ∷ []) w) (sym (unsigned_small more m low)) (record { spells = (low, sym (unsigned_some bits m fits)); shorter = omega arith })
+unsigned_shortest zero bits (b ∷ c ∷ bytes) n m f a s l = absurd (omega (arith, s.1))
+unsigned_shortest (suc more) bits (b ∷ c ∷ bytes) n m f a s l =
     let h : ℕ = s.2 in
     let sum : n ≡ 128 * h + (b - 128) = s.4 in
     let byte : b < 256 = a.0 in
@@ -59,16 +59,16 @@ unsigned_least (suc more) bits (b ∷ c ∷ bytes) n m f a s l =
       | inl low ↦
           let seven : 2 ^ 7 ≤ 2 ^ bits = pow_le 7 bits (omega (arith, s.1)) in
           let fits : m < 2 ^ bits = omega arith in
-          subst (λ w. Least (λ a. SpellsUnsigned bits a m) (b ∷ c ∷ bytes) w) (sym (unsigned_small (suc more) m low)) (record { spells = (low, sym (unsigned_some bits m fits)); least = omega arith })
+          subst (λ w. NoLonger (λ a. SpellsUnsigned bits a m) (b ∷ c ∷ bytes) w) (sym (unsigned_small (suc more) m low)) (record { spells = (low, sym (unsigned_some bits m fits)); shorter = omega arith })
       | inr high ↦
           let few : bits - 7 ≤ 7 * more + 7 = omega (arith, f) in
           let part : m / 128 ≤ h = omega arith in
-          let r = unsigned_least more (bits - 7) (c ∷ bytes) h (m / 128) few a.1 s.3 part in
+          let r = unsigned_shortest more (bits - 7) (c ∷ bytes) h (m / 128) few a.1 s.3 part in
           let again : m ≡ 128 * (m / 128) + (128 + m % 128 - 128) = omega arith in
-          let shorter : length (unsigned_within more (m / 128)) ≤ length (c ∷ bytes) = r.least in
-          subst (λ w. Least (λ a. SpellsUnsigned bits a m) (b ∷ c ∷ bytes) w) (sym (unsigned_large more m high)) (record {
+          let shorter : length (unsigned_within more (m / 128)) ≤ length (c ∷ bytes) = r.shorter in
+          subst (λ w. NoLonger (λ a. SpellsUnsigned bits a m) (b ∷ c ∷ bytes) w) (sym (unsigned_large more m high)) (record {
             spells = goes_on unsigned_last unsigned_joined bits (128 + m % 128) (unsigned_within more (m / 128)) (m / 128) m (omega arith) s.1 again r.spells;
-            least = omega arith;
+            shorter = omega arith;
           })
     ]
 
@@ -131,9 +131,9 @@ unsigned_sum (suc more) a b =
 
 -- ---- u32
 
-pub u32_least : (bytes : List ℕ) (n m : ℕ) → AreBytes bytes → SpellsU32 bytes n → m ≤ n → Least (λ a. SpellsU32 a m) bytes (shortest_unsigned m)
+pub u32_shortest : (bytes : List ℕ) (n m : ℕ) → AreBytes bytes → SpellsU32 bytes n → m ≤ n → NoLonger (λ a. SpellsU32 a m) bytes (shortest_unsigned m)
 unfolding shortest_unsigned
-u32_least bytes n m a s l = unsigned_least 9 32 bytes n m (omega arith) a s l
+u32_shortest bytes n m a s l = unsigned_shortest 9 32 bytes n m (omega arith) a s l
 
 pub u32_spelled : (n : ℕ) → n < 2 ^ 32 → SpellsU32 (shortest_unsigned n) n
 unfolding shortest_unsigned
@@ -207,13 +207,13 @@ split_bool : (b : Bool) → (b ≡ true) ⊎ (b ≡ false)
 split_bool true = inl refl
 split_bool false = inr refl
 
-signed_least : (more bits : ℕ) (bytes : List ℕ) (z : ℤ) → bits ≤ 7 * more + 7 → AreBytes bytes → SpellsSigned bits bytes z → Least (λ a. SpellsSigned bits a z) bytes (signed_within more z)
-signed_least more bits [] z f a s = absurd s
-signed_least more bits (b ∷ []) z f a s =
+signed_shortest : (more bits : ℕ) (bytes : List ℕ) (z : ℤ) → bits ≤ 7 * more + 7 → AreBytes bytes → SpellsSigned bits bytes z → NoLonger (λ a. SpellsSigned bits a z) bytes (signed_within more z)
+signed_shortest more bits [] z f a s = absurd s
+signed_shortest more bits (b ∷ []) z f a s =
     let p = last_signed bits b z s.0 s.1 in
-    subst (λ w. Least (λ a. SpellsSigned bits a z) (b ∷ []) w) (sym (signed_small more z p.0 ∙ ap (λ c. c ∷ []) p.1)) (record { spells = s; least = omega arith })
-signed_least zero bits (b ∷ c ∷ bytes) z f a s = absurd (omega (arith, s.1))
-signed_least (suc more) bits (b ∷ c ∷ bytes) z f a s =
+    subst (λ w. NoLonger (λ a. SpellsSigned bits a z) (b ∷ []) w) (sym (signed_small more z p.0 ∙ ap (λ c. c ∷ []) p.1)) (record { spells = s; shorter = omega arith })
+signed_shortest zero bits (b ∷ c ∷ bytes) z f a s = absurd (omega (arith, s.1))
+signed_shortest (suc more) bits (b ∷ c ∷ bytes) z f a s =
     let h : ℤ = s.2 in
     let sum : z ≡ (pos 128 *ℤ h) +ℤ pos (b - 128) = s.4 in
     let byte : b < 256 = a.0 in
@@ -221,24 +221,24 @@ signed_least (suc more) bits (b ∷ c ∷ bytes) z f a s =
     elim (split_bool (is_small z)) [
       | inl low ↦
           let seven : 2 ^ 7 ≤ 2 ^ (bits - 1) = pow_le 7 (bits - 1) (omega (arith, s.1)) in
-          subst (λ w. Least (λ a. SpellsSigned bits a z) (b ∷ c ∷ bytes) w) (sym (signed_small (suc more) z low)) (record { spells = small_spelled bits z seven low; least = omega arith })
+          subst (λ w. NoLonger (λ a. SpellsSigned bits a z) (b ∷ c ∷ bytes) w) (sym (signed_small (suc more) z low)) (record { spells = small_spelled bits z seven low; shorter = omega arith })
       | inr high ↦
           let p = parts_again h (b - 128) (omega arith) in
           let rest : int_div_euclid z (pos 128) ≡ h = ap (λ z. int_div_euclid z (pos 128)) sum ∙ p.0 in
           let first : 128 + low_bits z ≡ b = ap (λ z. 128 + low_bits z) sum ∙ ap (λ n. 128 + n) p.1 ∙ omega arith in
-          let r = signed_least more (bits - 7) (c ∷ bytes) h (omega (arith, f)) a.1 s.3 in
-          let shorter : length (signed_within more h) ≤ length (c ∷ bytes) = r.least in
-          subst (λ w. Least (λ a. SpellsSigned bits a z) (b ∷ c ∷ bytes) w)
+          let r = signed_shortest more (bits - 7) (c ∷ bytes) h (omega (arith, f)) a.1 s.3 in
+          let shorter : length (signed_within more h) ≤ length (c ∷ bytes) = r.shorter in
+          subst (λ w. NoLonger (λ a. SpellsSigned bits a z) (b ∷ c ∷ bytes) w)
           (sym (signed_large more z high ∙ ap (λ c. c ∷ signed_within more (int_div_euclid z (pos 128))) first ∙ ap (λ i. b ∷ signed_within more i) rest)) (record {
             spells = goes_on signed_last signed_joined bits b (signed_within more h) h z from s.1 sum r.spells;
-            least = omega arith;
+            shorter = omega arith;
           })
     ]
 
-pub i32_least : (bytes : List ℕ) (z : ℤ) → AreBytes bytes → SpellsSigned 32 bytes z → Least (λ a. SpellsSigned 32 a z) bytes (shortest_signed z)
+pub i32_shortest : (bytes : List ℕ) (z : ℤ) → AreBytes bytes → SpellsSigned 32 bytes z → NoLonger (λ a. SpellsSigned 32 a z) bytes (shortest_signed z)
 unfolding shortest_signed
-i32_least bytes z a s = signed_least 9 32 bytes z (omega arith) a s
+i32_shortest bytes z a s = signed_shortest 9 32 bytes z (omega arith) a s
 
-pub i64_least : (bytes : List ℕ) (z : ℤ) → AreBytes bytes → SpellsSigned 64 bytes z → Least (λ a. SpellsSigned 64 a z) bytes (shortest_signed z)
+pub i64_shortest : (bytes : List ℕ) (z : ℤ) → AreBytes bytes → SpellsSigned 64 bytes z → NoLonger (λ a. SpellsSigned 64 a z) bytes (shortest_signed z)
 unfolding shortest_signed
-i64_least bytes z a s = signed_least 9 64 bytes z (omega arith) a s
+i64_shortest bytes z a s = signed_shortest 9 64 bytes z (omega arith) a s

@@ -3,6 +3,7 @@ use Rattle.std.proofs.Common.{◌≡◌, ◌⊎◌, inl, inr, ℕ, ◌+◌, ◌<
 use Rattle.std.specs.List.{flat_map}
 use Rattle.std.proofs.lemmas.Bool.{cases_lt}
 use Rattle.wasm_ast.specs.declared.locals.LocalGroup.{LocalGroup}
+use Rattle.wasm_ast.specs.declared.module.Code.{Code}
 use Rattle.wasm_ast.specs.Types.{same_type}
 use Rattle.wasm_ast.specs.Locals.{total, joined, added, AreMerged}
 use Rattle.wasm_ast.proofs.LocalsLemmas.{total-joined, merged-joined}
@@ -13,14 +14,13 @@ use Rattle.wasm_ast.specs.Canon.{canon_group, canon_func, canon_code}
 use Rattle.wasm_ast.specs.SpelledTypes.{valtype_byte}
 use Rattle.wasm_ast.specs.Spelling.{SpellsEach, SpellsVec}
 use Rattle.wasm_ast.specs.SpelledModule.{SpellsGroup, SpellsLocals, SpellsCode, gathered}
-use Rattle.wasm_encode.proofs.LeastNumbers.{AreBytes, bytes_split, Least, u32_least, u32_spelled, u32_sum}
-use Rattle.wasm_encode.proofs.LeastParts.{IsLeast, u32_is, joined_least, sized_least, each_least}
-use Rattle.wasm_encode.proofs.LeastTypes.{valtype_least}
-use Rattle.wasm_encode.proofs.LeastBodies.{expr_least}
+use Rattle.wasm_encode.proofs.ShortestNumbers.{AreBytes, bytes_split, NoLonger, u32_shortest, u32_spelled, u32_sum}
+use Rattle.wasm_encode.proofs.ShortestVectors.{IsShortest, u32_is, pair_shortest, sized_shortest, each_shortest}
+use Rattle.wasm_encode.proofs.ShortestTypes.{valtype_shortest}
+use Rattle.wasm_encode.proofs.ShortestBodies.{expr_shortest}
 
-group_least : IsLeast SpellsGroup canon_group
-group_least bytes g a s =
-    joined_least bytes (shortest_unsigned g.count) (valtype_byte g.of ∷ []) a s (λ b. u32_is s.front g.count b s.first) (λ b. valtype_least s.back g.of b s.second)
+group_shortest : IsShortest SpellsGroup canon_group
+group_shortest = pair_shortest (λ (g : LocalGroup). g.count) (λ (g : LocalGroup). g.of) u32_is valtype_shortest
 
 abbrev written : List LocalGroup → List ℕ
 written gs = flat_map canon_group gs
@@ -114,12 +114,12 @@ each_spelled (g ∷ gs) few = record {
 
 -- the groups of the bytes
 module _ (bytes : List ℕ) (groups : List LocalGroup) (a : AreBytes bytes) (j : SpellsVec SpellsGroup bytes groups) (few : total groups < 2 ^ 32) where
-  gathered_least : Least (λ a. SpellsLocals a (gathered [] groups)) bytes (canon_vec canon_group (gathered [] groups))
-  gathered_least =
+  gathered_shortest : NoLonger (λ a. SpellsLocals a (gathered [] groups)) bytes (canon_vec canon_group (gathered [] groups))
+  gathered_shortest =
       let locals : List LocalGroup = gathered [] groups in
       let b = bytes_split j.front j.back (subst AreBytes j.parts a) in
-      let n = u32_least j.front (length groups) (length locals) b.0 j.first (omega (arith, length_all groups [])) in
-      let gs = each_least group_least j.back groups b.1 j.second in
+      let n = u32_shortest j.front (length groups) (length locals) b.0 j.first (omega (arith, length_all groups [])) in
+      let gs = each_shortest group_shortest j.back groups b.1 j.second in
       let total_same : total locals < 2 ^ 32 = omega (arith, few, total_all groups []) in
       record {
         spells = (
@@ -128,14 +128,12 @@ module _ (bytes : List ℕ) (groups : List LocalGroup) (a : AreBytes bytes) (j :
           total_same,
           sym (gathered_merged locals (merged_all groups [] tt)),
         );
-        least = omega (arith, n.least, gs.least, written_all groups [], ap length j.parts, length-append j.front j.back, length-append (shortest_unsigned (length locals)) (written locals));
+        shorter = omega (arith, n.shorter, gs.shorter, written_all groups [], ap length j.parts, length-append j.front j.back, length-append (shortest_unsigned (length locals)) (written locals));
       }
 
-locals_least : IsLeast SpellsLocals (canon_vec canon_group)
-locals_least bytes locals a s =
-    subst (λ z. Least (λ a. SpellsLocals a z) bytes (canon_vec canon_group z)) (sym s.3) (gathered_least bytes s.0 a s.1 s.2)
+locals_shortest : IsShortest SpellsLocals (canon_vec canon_group)
+locals_shortest bytes locals a s =
+    subst (λ z. NoLonger (λ a. SpellsLocals a z) bytes (canon_vec canon_group z)) (sym s.3) (gathered_shortest bytes s.0 a s.1 s.2)
 
-pub code_least : IsLeast SpellsCode canon_code
-code_least bytes c a s =
-    sized_least bytes (canon_func c) a s
-    (λ x b j. joined_least x (canon_vec canon_group c.locals) (canon_expr c.body) b j (λ d. locals_least j.front c.locals d j.first) (λ d. expr_least j.back c.body d j.second))
+pub code_shortest : IsShortest SpellsCode canon_code
+code_shortest bytes c a s = sized_shortest bytes (canon_func c) a s (λ x b j. pair_shortest (λ (c : Code). c.locals) (λ (c : Code). c.body) locals_shortest expr_shortest x c b j)

@@ -10,12 +10,12 @@ use Rattle.wasm_ast.specs.Canon.{canon_func_type, canon_import, canon_table, can
 use Rattle.wasm_ast.specs.Spelling.{SpellsU32, SpellsVec}
 use Rattle.wasm_ast.specs.SpelledTypes.{SpellsFuncType, SpellsTable, SpellsMemory}
 use Rattle.wasm_ast.specs.SpelledModule.{SpellsImport, SpellsGlobal, SpellsExport, SpellsElement, SpellsCode, SpellsSegment, Section, content_of, Holds, HoldsStart, preamble, SpellsModule}
-use Rattle.wasm_encode.proofs.LeastNumbers.{AreBytes, bytes_split, Least}
-use Rattle.wasm_encode.proofs.LeastParts.{IsLeast, u32_is, vec_least}
-use Rattle.wasm_encode.proofs.LeastTypes.{functype_least, table_least, memory_least}
-use Rattle.wasm_encode.proofs.LeastItems.{import_least, global_least, export_least, element_least, segment_least}
-use Rattle.wasm_encode.proofs.LeastGroups.{code_least}
-use Rattle.wasm_encode.proofs.LeastSections.{sections_from, written_slot, written_from, slot_at, content_at, order_from, Fits, Covered, slots_least, contents_bytes}
+use Rattle.wasm_encode.proofs.ShortestNumbers.{AreBytes, bytes_split, NoLonger}
+use Rattle.wasm_encode.proofs.ShortestVectors.{IsShortest, u32_is, vec_shortest}
+use Rattle.wasm_encode.proofs.ShortestTypes.{functype_shortest, table_shortest, memory_shortest}
+use Rattle.wasm_encode.proofs.ShortestItems.{import_shortest, global_shortest, export_shortest, element_shortest, segment_shortest}
+use Rattle.wasm_encode.proofs.ShortestLocals.{code_shortest}
+use Rattle.wasm_encode.proofs.ShortestSections.{sections_from, written_slot, written_from, slot_at, content_at, order_from, Fits, Covered, slots_shortest, contents_bytes}
 
 -- the content of the section of a list, if there is one
 abbrev slot : {X : Type 0} → (X → List ℕ) → List X → Option (List ℕ)
@@ -75,11 +75,11 @@ canon_is m = sym (slots_are m) ∙ behind_is (slots m) preamble 1
 abbrev Held : {X : Type 0} → (List ℕ → X → Type 0) → (X → List ℕ) → Option (List ℕ) → List X → Type 0
 Held S written o xs = Fits (slot written xs) o × MatchOption (slot written xs) (xs ≡ []) (λ content. SpellsVec S content xs)
 
-held_of : {X : Type 0} {S : List ℕ → X → Type 0} {written : X → List ℕ} → IsLeast S written → (o : Option (List ℕ)) (xs : List X) → ((content : List ℕ) → o ≡ Some content → AreBytes content) →
+held_of : {X : Type 0} {S : List ℕ → X → Type 0} {written : X → List ℕ} → IsShortest S written → (o : Option (List ℕ)) (xs : List X) → ((content : List ℕ) → o ≡ Some content → AreBytes content) →
     MatchOption o (xs ≡ []) (λ content. SpellsVec S content xs) → Held S written o xs
 held_of e o [] a h = (tt, refl)
 held_of e None (x ∷ xs) a h = absurd cc
-held_of {X} {S} {written} e (Some content) (x ∷ xs) a h = let p = vec_least e content (x ∷ xs) (a content refl) h in (p.least, p.spells)
+held_of {X} {S} {written} e (Some content) (x ∷ xs) a h = let p = vec_shortest e content (x ∷ xs) (a content refl) h in (p.shorter, p.spells)
 
 abbrev HeldStart : Option (List ℕ) → Option ℕ → Type 0
 HeldStart o x = Fits (start_slot x) o × ((ss : List Section) → content_of 8 ss ≡ start_slot x → HoldsStart ss x)
@@ -89,7 +89,7 @@ start_of o ss None e a h = (tt, λ ts k. k)
 start_of None ss (Some function) e a h = absurd (subst (λ o. MatchOption o ⊥ (λ content. SpellsU32 content function)) (sym e) h)
 start_of (Some content) ss (Some function) e a h =
     let p = u32_is content function (a content refl) (subst (λ o. MatchOption o ⊥ (λ content. SpellsU32 content function)) (sym e) h) in
-    (p.least, λ ts k. subst (λ o. MatchOption o ⊥ (λ content. SpellsU32 content function)) (sym k) p.spells)
+    (p.shorter, λ ts k. subst (λ o. MatchOption o ⊥ (λ content. SpellsU32 content function)) (sym k) p.spells)
 
 -- ---- the module
 
@@ -100,28 +100,28 @@ module _ (bytes : List ℕ) (m : Module) (a : AreBytes bytes) (h : SpellsModule 
   bytes_at : (id : ℕ) (content : List ℕ) → content_of id h.sections ≡ Some content → AreBytes content
   bytes_at id content e = contents_bytes h.sections h.body id content body_bytes h.parts e
 
-  held : {X : Type 0} {S : List ℕ → X → Type 0} {written : X → List ℕ} → IsLeast S written → (id : ℕ) (xs : List X) → Holds S id h.sections xs → Held S written (content_of id h.sections) xs
+  held : {X : Type 0} {S : List ℕ → X → Type 0} {written : X → List ℕ} → IsShortest S written → (id : ℕ) (xs : List X) → Holds S id h.sections xs → Held S written (content_of id h.sections) xs
   held e id xs s = held_of e (content_of id h.sections) xs (bytes_at id) s
 
   -- what the slot of a number, so many behind the first, holds is held by the sections that are written
   holds : {X : Type 0} (S : List ℕ → X → Type 0) (i id : ℕ) (o : Option (List ℕ)) (xs : List X) → id ≡ 1 + i → slot_at (slots m) i ≡ o → MatchOption o (xs ≡ []) (λ content. SpellsVec S content xs) → Holds S id (sections_from 1 (slots m)) xs
   holds {X} S i id o xs e k s = subst (λ o. MatchOption o (xs ≡ []) (λ content. SpellsVec S content xs)) (sym (content_at (slots m) 1 i id e ∙ k)) s
 
-  pub module_least : Least (λ w. SpellsModule w m) bytes (canon m)
-  module_least =
-      let types = held functype_least 1 m.types h.types in
-      let imports = held import_least 2 m.imports h.imports in
+  pub module_shortest : NoLonger (λ w. SpellsModule w m) bytes (canon m)
+  module_shortest =
+      let types = held functype_shortest 1 m.types h.types in
+      let imports = held import_shortest 2 m.imports h.imports in
       let functions = held u32_is 3 m.functions h.functions in
-      let tables = held table_least 4 m.tables h.tables in
-      let memories = held memory_least 5 m.memories h.memories in
-      let globals = held global_least 6 m.globals h.globals in
-      let exports = held export_least 7 m.exports h.exports in
+      let tables = held table_shortest 4 m.tables h.tables in
+      let memories = held memory_shortest 5 m.memories h.memories in
+      let globals = held global_shortest 6 m.globals h.globals in
+      let exports = held export_shortest 7 m.exports h.exports in
       let start = start_of (content_of 8 h.sections) h.sections m.start refl (bytes_at 8) h.start in
-      let elements = held element_least 9 m.elements h.elements in
-      let codes = held code_least 10 m.codes h.codes in
-      let segments = held segment_least 11 m.segments h.segments in
+      let elements = held element_shortest 9 m.elements h.elements in
+      let codes = held code_shortest 10 m.codes h.codes in
+      let segments = held segment_shortest 11 m.segments h.segments in
       let covered : Covered 1 h.sections (slots m) = (types.0, (imports.0, (functions.0, (tables.0, (memories.0, (globals.0, (exports.0, (start.0, (elements.0, (codes.0, (segments.0, tt))))))))))) in
-      let body = slots_least (slots m) 1 h.sections h.body (omega arith) body_bytes h.parts h.order covered in
+      let body = slots_shortest (slots m) 1 h.sections h.body (omega arith) body_bytes h.parts h.order covered in
       record {
         spells = record {
           sections = sections_from 1 (slots m);
@@ -142,9 +142,9 @@ module _ (bytes : List ℕ) (m : Module) (a : AreBytes bytes) (h : SpellsModule 
           segments = holds SpellsSegment 10 11 (slot canon_segment m.segments) m.segments (omega arith) refl segments.1;
           counts = h.counts;
         };
-        least = omega (arith, body.least, ap length h.begins, ap length (canon_is m), length-append preamble h.body, length-append preamble (written_from 1 (slots m)));
+        shorter = omega (arith, body.shorter, ap length h.begins, ap length (canon_is m), length-append preamble h.body, length-append preamble (written_from 1 (slots m)));
       }
 
 -- of bytes, each below 2 to the 8
-pub module_written : (bytes : List ℕ) (m : Module) → All (λ b. b < 2 ^ 8) bytes → SpellsModule bytes m → Least (λ w. SpellsModule w m) bytes (canon m)
-module_written bytes m a h = module_least bytes m (recursion_from_All (λ b. b < 2 ^ 8) bytes a) h
+pub module_written : (bytes : List ℕ) (m : Module) → All (λ b. b < 2 ^ 8) bytes → SpellsModule bytes m → NoLonger (λ w. SpellsModule w m) bytes (canon m)
+module_written bytes m a h = module_shortest bytes m (recursion_from_All (λ b. b < 2 ^ 8) bytes a) h
