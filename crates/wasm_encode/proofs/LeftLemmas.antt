@@ -11,7 +11,8 @@ use Rattle.wasm_ast.specs.declared.instr.Access.TheVariants as access
 use Rattle.wasm_ast.specs.declared.types.IntType.TheVariants as int
 use Rattle.wasm_ast.specs.Sequence.{Sequence, Plain}
 use Rattle.wasm_ast.specs.Numbering.{list_at, in_front, sequence, nested}
-use Rattle.wasm_ast.specs.CanonInstr.{block_type_byte, access_opcode, canon_plain, canon_else, canon_sequence, canon_expr}
+use Rattle.wasm_ast.specs.CanonInstr.{block_type_byte, canon_plain, canon_else, canon_sequence, canon_expr}
+use Rattle.wasm_ast.specs.Opcodes.{access_opcode}
 use Rattle.wasm_encode.specs.declared.bodies.Block as block
 use Rattle.wasm_encode.specs.Left.{AreNested, second_left, filled_at, filled, block_left, blocks_left, Turns}
 

@@ -1,14 +1,12 @@
 -- Instructions that have no inner instructions are written so that they are spelled, in the fewest bytes.
-use Rattle.std.proofs.Common.{◌≡◌, ◌⊎◌, inl, inr, ℕ, ◌≤◌, List, [], ◌∷◌, ◌++◌, length, refl, sym, ap, subst, arith}
-use Rattle.wasm_ast.specs.declared.instr.Instr.{Instr}
+use Rattle.std.proofs.Common.{◌≡◌, inl, inr, ℕ, List, [], ◌∷◌, length, refl, sym, ap, subst, arith}
 use Rattle.wasm_ast.specs.declared.instr.Instr.TheVariants as instr
 use Rattle.wasm_ast.specs.declared.instr.MemArg.{MemArg}
-use Rattle.wasm_ast.specs.Immediates.{Immediates, Nothing, Index, Labels, IndexAndZero, Argument, Zero, Signed32, Signed64, Raw, Never, Value, Spells, shortest}
+use Rattle.wasm_ast.specs.Immediates.{Immediates, Nothing, Index, Labels, IndexAndZero, Argument, Zero, Signed32, Signed64, Raw, Never, Spells, shortest}
 use Rattle.wasm_ast.specs.Opcodes.{encoding}
 use Rattle.wasm_ast.specs.SpelledInstr.{SpellsFloat, SpellsPlain}
-use Rattle.wasm_ast.specs.Shortest.{shortest_unsigned, canon_vec}
 use Rattle.wasm_ast.specs.CanonInstr.{canon_plain}
-use Rattle.wasm_encode.proofs.ShortestNumbers.{AreBytes, NoLonger, i32_shortest, i64_shortest}
+use Rattle.wasm_encode.proofs.ShortestNumbers.{NoLonger, i32_shortest, i64_shortest}
 use Rattle.wasm_encode.proofs.ShortestVectors.{IsShortest, u32_is, fixed, joined_shortest, pair_shortest, vec_shortest}
 
 value_shortest : (of : Immediates) → IsShortest (Spells of) (shortest of)

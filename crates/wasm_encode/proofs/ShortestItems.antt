@@ -1,5 +1,4 @@
 -- The items of a module are written so that they are spelled, in the fewest bytes.
-use Rattle.std.proofs.Common.{ℕ, List, ◌++◌, sym, subst, append_assoc}
 use Rattle.wasm_ast.specs.declared.module.Import.{Import}
 use Rattle.wasm_ast.specs.declared.module.GlobalVar.{GlobalVar}
 use Rattle.wasm_ast.specs.declared.module.Export.{Export}
@@ -8,12 +7,8 @@ use Rattle.wasm_ast.specs.declared.module.Segment.{Segment}
 use Rattle.wasm_ast.specs.declared.module.ImportKind.TheVariants as imported
 use Rattle.wasm_ast.specs.declared.module.ExportKind.TheVariants as exported
 use Rattle.wasm_ast.specs.Shortest.{shortest_unsigned}
-use Rattle.wasm_ast.specs.CanonInstr.{canon_expr}
-use Rattle.wasm_ast.specs.Shortest.{canon_vec}
-use Rattle.wasm_ast.specs.Canon.{canon_bytes, canon_memory, canon_table, canon_global_type, canon_import_kind, canon_import, canon_global, canon_export_kind, canon_export, canon_element, canon_segment}
-use Rattle.wasm_ast.specs.Spelling.{Joined}
+use Rattle.wasm_ast.specs.Canon.{canon_memory, canon_table, canon_global_type, canon_import_kind, canon_import, canon_global, canon_export_kind, canon_export, canon_element, canon_segment}
 use Rattle.wasm_ast.specs.SpelledModule.{SpellsImportKind, SpellsImport, SpellsGlobal, SpellsExportKind, SpellsExport, SpellsElement, SpellsSegment}
-use Rattle.wasm_encode.proofs.ShortestNumbers.{AreBytes, NoLonger}
 use Rattle.wasm_encode.proofs.ShortestVectors.{IsShortest, u32_is, pair_shortest, triple_shortest, behind_shortest, vec_shortest, bytes_shortest, name_shortest}
 use Rattle.wasm_encode.proofs.ShortestTypes.{memory_shortest, table_shortest, globaltype_shortest}
 use Rattle.wasm_encode.proofs.ShortestBodies.{expr_shortest}

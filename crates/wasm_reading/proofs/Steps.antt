@@ -7,7 +7,7 @@ use Rattle.wasm_ast.specs.declared.opcode.Opcode.TheVariants as op
 use Rattle.wasm_ast.specs.declared.opcode.AtomicOpcode.{AtomicOpcode}
 use Rattle.wasm_ast.specs.declared.opcode.AtomicOpcode.TheVariants as atomic
 use Rattle.wasm_ast.specs.Sequence.{Sequence}
-use Rattle.wasm_ast.specs.OpcodeTables.{opcode_at, atomic_at, plan_of, atomic_plan_of, SpellsPlan, SpellsAtomic, SpellsBehind}
+use Rattle.wasm_ast.specs.OpcodeTables.{opcode_at, atomic_at, atomic_plan_of, SpellsPlan, SpellsBehind}
 use Rattle.wasm_reading.specs.ReadTypes.{blocktype_at}
 use Rattle.wasm_reading.specs.ReadInstr.{immediates_at, Open, behind_opcode, instrs_at}
 use Rattle.wasm_reading.specs.Filling.{NamesNone}
