@@ -7,9 +7,9 @@ use Rattle.byte_cursor.proofs.Bounds.{seven_more, pow_le, unsigned_some, signed_
 use Rattle.byte_cursor.proofs.Laws.{chosen}
 use Rattle.std.proofs.lemmas.Int.{ints}
 use Rattle.std.specs.Int.{int_div_euclid}
-use Rattle.wasm_ast.specs.Shortest.{unsigned_within, shortest_unsigned, signed_within, shortest_signed, is_small, low_bits}
+use Rattle.wasm_ast.specs.Shortest.{bytes_within, unsigned_within, shortest_unsigned, signed_within, shortest_signed, is_small, low_bits}
 use Rattle.wasm_ast.specs.Spelling.{SpellsU32}
-use Rattle.wasm_encode.proofs.NumberSteps.{unsigned_small, unsigned_large, signed_small, signed_large}
+use Rattle.wasm_encode.proofs.NumberSteps.{small_is, large_is, unsigned_small, unsigned_large, unsigned_deep}
 
 -- each is a byte
 abbrev pub AreBytes : List ℕ → Type 0
@@ -32,6 +32,39 @@ goes_on : {N : Type 0} (last : ℕ → ℕ → Option N) (joined : ℕ → N →
 goes_on last joined bits b [] m n high more e s = absurd s
 goes_on last joined bits b (c ∷ bytes) m n high more e s = (high, more, m, s, e)
 
+split_bool : (b : Bool) → (b ≡ true) ⊎ (b ≡ false)
+split_bool true = inl refl
+split_bool false = inr refl
+
+-- Numbers of which a last byte gives a small one and its lowest bits, a byte that goes on gives its bits
+-- and the rest, and a small one is spelled by one byte.
+module _ {N : Type 0} (small : N → Bool) (low : N → ℕ) (rest : N → N) (last : ℕ → ℕ → Option N) (joined : ℕ → N → N)
+    (ends : (bits b : ℕ) (n : N) → b < 128 → last bits b ≡ Some n → (small n ≡ true) × (low n ≡ b))
+    (splits : (b : ℕ) (m : N) → 128 ≤ b → b < 256 → (rest (joined b m) ≡ m) × (128 + low (joined b m) ≡ b))
+    (one : (bits : ℕ) (n : N) → 7 < bits → small n ≡ true → Spells last joined bits (low n ∷ []) n) where
+  number_shortest : (more bits : ℕ) (bytes : List ℕ) (n : N) → bits ≤ 7 * more + 7 → AreBytes bytes → Spells last joined bits bytes n → NoLonger (λ a. Spells last joined bits a n) bytes (bytes_within small low rest more n)
+  number_shortest more bits [] n f a s = absurd s
+  number_shortest more bits (b ∷ []) n f a s =
+      let p = ends bits b n s.0 s.1 in
+      subst (λ w. NoLonger (λ a. Spells last joined bits a n) (b ∷ []) w) (sym (small_is small low rest more n p.0 ∙ ap (λ c. c ∷ []) p.1)) (record { spells = s; shorter = omega arith })
+  number_shortest zero bits (b ∷ c ∷ bytes) n f a s = absurd (omega (arith, s.1))
+  number_shortest (suc more) bits (b ∷ c ∷ bytes) n f a s =
+      elim (split_bool (small n)) [
+        | inl one_byte ↦
+            subst (λ w. NoLonger (λ a. Spells last joined bits a n) (b ∷ c ∷ bytes) w) (sym (small_is small low rest (suc more) n one_byte)) (record { spells = one bits n s.1 one_byte; shorter = omega arith })
+        | inr longer ↦
+            let m : N = s.2 in
+            let p = splits b m s.0 a.0 in
+            let first : 128 + low n ≡ b = ap (λ z. 128 + low z) s.4 ∙ p.1 in
+            let others : rest n ≡ m = ap rest s.4 ∙ p.0 in
+            let r = number_shortest more (bits - 7) (c ∷ bytes) m (omega (arith, f)) a.1 s.3 in
+            subst (λ w. NoLonger (λ a. Spells last joined bits a n) (b ∷ c ∷ bytes) w)
+            (sym (large_is small low rest more n longer ∙ ap (λ d. d ∷ bytes_within small low rest more (rest n)) first ∙ ap (λ z. b ∷ bytes_within small low rest more z) others)) (record {
+              spells = goes_on last joined bits b (bytes_within small low rest more m) m n s.0 s.1 s.4 r.spells;
+              shorter = omega (arith, r.shorter);
+            })
+      ]
+
 -- ---- unsigned numbers
 
 last_unsigned : (bits b n : ℕ) → unsigned_last bits b ≡ Some n → (b < 2 ^ bits) × (b ≡ n)
@@ -41,36 +74,24 @@ last_unsigned bits b n h =
       | inr w ↦ let no : None ≡ Some n = w.1 in absurd cc
     ]
 
--- a number that is no larger than one that is spelled
-unsigned_shortest : (more bits : ℕ) (bytes : List ℕ) (n m : ℕ) → bits ≤ 7 * more + 7 → AreBytes bytes → SpellsUnsigned bits bytes n → m ≤ n →
-    NoLonger (λ a. SpellsUnsigned bits a m) bytes (unsigned_within more m)
-unsigned_shortest more bits [] n m f a s l = absurd s
-unsigned_shortest more bits (b ∷ []) n m f a s l =
-    let p = last_unsigned bits b n s.1 in
-    let low : m < 128 = omega (arith, s.0, p.1) in
-    let fits : m < 2 ^ bits = omega (arith, p.0, p.1) in
-    subst (λ w. NoLonger (λ a. SpellsUnsigned bits a m) (b ∷ []) w) (sym (unsigned_small more m low)) (record { spells = (low, sym (unsigned_some bits m fits)); shorter = omega arith })
-unsigned_shortest zero bits (b ∷ c ∷ bytes) n m f a s l = absurd (omega (arith, s.1))
-unsigned_shortest (suc more) bits (b ∷ c ∷ bytes) n m f a s l =
-    let h : ℕ = s.2 in
-    let sum : n ≡ 128 * h + (b - 128) = s.4 in
-    let byte : b < 256 = a.0 in
-    elim (cases_lt m 128) [
-      | inl low ↦
-          let seven : 2 ^ 7 ≤ 2 ^ bits = pow_le 7 bits (omega (arith, s.1)) in
-          let fits : m < 2 ^ bits = omega arith in
-          subst (λ w. NoLonger (λ a. SpellsUnsigned bits a m) (b ∷ c ∷ bytes) w) (sym (unsigned_small (suc more) m low)) (record { spells = (low, sym (unsigned_some bits m fits)); shorter = omega arith })
-      | inr high ↦
-          let few : bits - 7 ≤ 7 * more + 7 = omega (arith, f) in
-          let part : m / 128 ≤ h = omega arith in
-          let r = unsigned_shortest more (bits - 7) (c ∷ bytes) h (m / 128) few a.1 s.3 part in
-          let again : m ≡ 128 * (m / 128) + (128 + m % 128 - 128) = omega arith in
-          let shorter : length (unsigned_within more (m / 128)) ≤ length (c ∷ bytes) = r.shorter in
-          subst (λ w. NoLonger (λ a. SpellsUnsigned bits a m) (b ∷ c ∷ bytes) w) (sym (unsigned_large more m high)) (record {
-            spells = goes_on unsigned_last unsigned_joined bits (128 + m % 128) (unsigned_within more (m / 128)) (m / 128) m (omega arith) s.1 again r.spells;
-            shorter = omega arith;
-          })
-    ]
+-- a number that is spelled has so many bits
+unsigned_below : (bits : ℕ) (bytes : List ℕ) (n : ℕ) → AreBytes bytes → SpellsUnsigned bits bytes n → n < 2 ^ bits
+unsigned_below bits [] n a s = absurd s
+unsigned_below bits (b ∷ []) n a s = let p = last_unsigned bits b n s.1 in omega (arith, p.0, p.1)
+unsigned_below bits (b ∷ c ∷ bytes) n a s =
+    let few = unsigned_below (bits - 7) (c ∷ bytes) s.2 a.1 s.3 in omega (arith, few, a.0, s.4, seven_more bits (omega (arith, s.1)))
+
+one_unsigned : (bits n : ℕ) → 7 < bits → nat_lt n 128 ≡ true → SpellsUnsigned bits (n % 128 ∷ []) n
+one_unsigned bits n l h =
+    let low : n < 128 = ltb-true n 128 h in
+    let same : n % 128 ≡ n = omega arith in
+    let k : 2 ^ 7 ≤ 2 ^ bits = pow_le 7 bits (omega arith) in
+    (omega arith, ap (λ b. unsigned_last bits b) same ∙ sym (unsigned_some bits n (omega arith)))
+
+unsigned_shortest : (more bits : ℕ) (bytes : List ℕ) (n : ℕ) → bits ≤ 7 * more + 7 → AreBytes bytes → SpellsUnsigned bits bytes n → NoLonger (λ a. SpellsUnsigned bits a n) bytes (unsigned_within more n)
+unsigned_shortest =
+    number_shortest (λ m. nat_lt m 128) (λ m. m % 128) (λ m. m / 128) unsigned_last unsigned_joined
+    (λ bits b n l h. let p = last_unsigned bits b n h in (lt-ltb n 128 (omega (arith, p.1)), omega (arith, p.1))) (λ b m h l. (omega arith, omega arith)) one_unsigned
 
 -- a number of so many bits is spelled
 unsigned_spelled : (more bits m : ℕ) → bits ≤ 7 * more + 7 → m < 2 ^ bits → SpellsUnsigned bits (unsigned_within more m) m
@@ -92,8 +113,8 @@ unsigned_spelled (suc more) bits m f l =
 
 -- ---- lengths
 
-zero_within : (n : ℕ) → unsigned_within zero n ≡ n ∷ []
-unfolding unsigned_within
+zero_within : (n : ℕ) → unsigned_within zero n ≡ n % 128 ∷ []
+unfolding bytes_within
 zero_within n = refl
 
 unsigned_nonempty : (more n : ℕ) → 1 ≤ length (unsigned_within more n)
@@ -131,13 +152,17 @@ unsigned_sum (suc more) a b =
 
 -- ---- u32
 
-pub u32_shortest : (bytes : List ℕ) (n m : ℕ) → AreBytes bytes → SpellsU32 bytes n → m ≤ n → NoLonger (λ a. SpellsU32 a m) bytes (shortest_unsigned m)
-unfolding shortest_unsigned
-u32_shortest bytes n m a s l = unsigned_shortest 9 32 bytes n m (omega arith) a s l
-
 pub u32_spelled : (n : ℕ) → n < 2 ^ 32 → SpellsU32 (shortest_unsigned n) n
 unfolding shortest_unsigned
 u32_spelled n l = unsigned_spelled 9 32 n (omega arith) l
+
+-- a number that is no larger than one that is spelled
+pub u32_shortest : (bytes : List ℕ) (n m : ℕ) → AreBytes bytes → SpellsU32 bytes n → m ≤ n → NoLonger (λ a. SpellsU32 a m) bytes (shortest_unsigned m)
+unfolding shortest_unsigned
+u32_shortest bytes n m a s l =
+    let few = unsigned_below 32 bytes n a s in
+    let p = unsigned_shortest 9 32 bytes n (omega arith) a s in
+    record { spells = unsigned_spelled 9 32 m (omega arith) (omega arith); shorter = omega (arith, p.shorter, unsigned_order 9 n m l, ap length (unsigned_deep 9 n (omega arith))) }
 
 pub u32_sum : (a b : ℕ) → length (shortest_unsigned (a + b)) ≤ length (shortest_unsigned a) + length (shortest_unsigned b)
 unfolding shortest_unsigned
@@ -203,37 +228,10 @@ last_signed bits b z l h =
           ]
     ]
 
-split_bool : (b : Bool) → (b ≡ true) ⊎ (b ≡ false)
-split_bool true = inl refl
-split_bool false = inr refl
-
 signed_shortest : (more bits : ℕ) (bytes : List ℕ) (z : ℤ) → bits ≤ 7 * more + 7 → AreBytes bytes → SpellsSigned bits bytes z → NoLonger (λ a. SpellsSigned bits a z) bytes (signed_within more z)
-signed_shortest more bits [] z f a s = absurd s
-signed_shortest more bits (b ∷ []) z f a s =
-    let p = last_signed bits b z s.0 s.1 in
-    subst (λ w. NoLonger (λ a. SpellsSigned bits a z) (b ∷ []) w) (sym (signed_small more z p.0 ∙ ap (λ c. c ∷ []) p.1)) (record { spells = s; shorter = omega arith })
-signed_shortest zero bits (b ∷ c ∷ bytes) z f a s = absurd (omega (arith, s.1))
-signed_shortest (suc more) bits (b ∷ c ∷ bytes) z f a s =
-    let h : ℤ = s.2 in
-    let sum : z ≡ (pos 128 *ℤ h) +ℤ pos (b - 128) = s.4 in
-    let byte : b < 256 = a.0 in
-    let from : 128 ≤ b = s.0 in
-    elim (split_bool (is_small z)) [
-      | inl low ↦
-          let seven : 2 ^ 7 ≤ 2 ^ (bits - 1) = pow_le 7 (bits - 1) (omega (arith, s.1)) in
-          subst (λ w. NoLonger (λ a. SpellsSigned bits a z) (b ∷ c ∷ bytes) w) (sym (signed_small (suc more) z low)) (record { spells = small_spelled bits z seven low; shorter = omega arith })
-      | inr high ↦
-          let p = parts_again h (b - 128) (omega arith) in
-          let rest : int_div_euclid z (pos 128) ≡ h = ap (λ z. int_div_euclid z (pos 128)) sum ∙ p.0 in
-          let first : 128 + low_bits z ≡ b = ap (λ z. 128 + low_bits z) sum ∙ ap (λ n. 128 + n) p.1 ∙ omega arith in
-          let r = signed_shortest more (bits - 7) (c ∷ bytes) h (omega (arith, f)) a.1 s.3 in
-          let shorter : length (signed_within more h) ≤ length (c ∷ bytes) = r.shorter in
-          subst (λ w. NoLonger (λ a. SpellsSigned bits a z) (b ∷ c ∷ bytes) w)
-          (sym (signed_large more z high ∙ ap (λ c. c ∷ signed_within more (int_div_euclid z (pos 128))) first ∙ ap (λ i. b ∷ signed_within more i) rest)) (record {
-            spells = goes_on signed_last signed_joined bits b (signed_within more h) h z from s.1 sum r.spells;
-            shorter = omega arith;
-          })
-    ]
+signed_shortest =
+    number_shortest is_small low_bits (λ y. int_div_euclid y (pos 128)) signed_last signed_joined last_signed
+    (λ b m h l. let p = parts_again m (b - 128) (omega arith) in (p.0, omega (arith, p.1))) (λ bits z l h. let k : 2 ^ 7 ≤ 2 ^ (bits - 1) = pow_le 7 (bits - 1) (omega arith) in small_spelled bits z k h)
 
 pub i32_shortest : (bytes : List ℕ) (z : ℤ) → AreBytes bytes → SpellsSigned 32 bytes z → NoLonger (λ a. SpellsSigned 32 a z) bytes (shortest_signed z)
 unfolding shortest_signed
