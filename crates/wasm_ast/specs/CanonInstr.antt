@@ -26,7 +26,9 @@ use Rattle.wasm_ast.specs.declared.instr.Access.TheVariants.{Load, Store, Notify
 use Rattle.wasm_ast.specs.declared.instr.MemArg.{MemArg}
 use Rattle.wasm_ast.specs.declared.instr.Instr.{Instr}
 use Rattle.wasm_ast.specs.declared.instr.Instr.TheVariants as instr
-use Rattle.wasm_ast.specs.Sequence.{Sequence, Empty, Plain, Block, Loop, If}
+use Rattle.wasm_ast.specs.declared.instr.BlockKind.{BlockKind}
+use Rattle.wasm_ast.specs.declared.instr.BlockKind.TheVariants as kind
+use Rattle.wasm_ast.specs.Sequence.{Sequence, Empty, Plain, Block, If}
 use Rattle.wasm_ast.specs.SpelledTypes.{valtype_byte}
 use Rattle.wasm_ast.specs.Shortest.{shortest_unsigned, shortest_signed}
 
@@ -178,6 +180,11 @@ canon_plain (instr.I64Const value) = 0x42 ∷ shortest_signed value
 canon_plain (instr.Numeric op) = numeric_opcode op ∷ []
 canon_plain instr.Float = 0x5B ∷ []
 
+-- the opcode of a block or a loop (5.4.1)
+abbrev pub block_byte : BlockKind → ℕ
+block_byte kind.Block = 0x02
+block_byte kind.Loop = 0x03
+
 -- the second arm of an if, by its sequence and that written; nothing where it is empty
 abbrev pub canon_else : Sequence → List ℕ → List ℕ
 canon_else Empty written = []
@@ -187,8 +194,7 @@ canon_else s written = 0x05 ∷ written
 abbrev pub canon_sequence : Sequence → List ℕ
 canon_sequence Empty = []
 canon_sequence (Plain i rest) = canon_plain i ++ canon_sequence rest
-canon_sequence (Block of body rest) = 0x02 ∷ block_type_byte of ∷ canon_sequence body ++ 0x0B ∷ canon_sequence rest
-canon_sequence (Loop of body rest) = 0x03 ∷ block_type_byte of ∷ canon_sequence body ++ 0x0B ∷ canon_sequence rest
+canon_sequence (Block k of body rest) = block_byte k ∷ block_type_byte of ∷ canon_sequence body ++ 0x0B ∷ canon_sequence rest
 canon_sequence (If of then otherwise rest) =
     0x04 ∷ block_type_byte of ∷ canon_sequence then ++ canon_else otherwise (canon_sequence otherwise) ++ 0x0B ∷ canon_sequence rest
 

@@ -3,13 +3,15 @@ use Rattle.std.specs.Prelude.{◌≡◌, ◌⊎◌, ℕ, ℤ, List, [], ◌∷�
 use Rattle.byte_cursor.specs.Integers.{SpellsSigned}
 use Rattle.wasm_ast.specs.declared.instr.Instr.{Instr}
 use Rattle.wasm_ast.specs.declared.instr.Instr.TheVariants as instr
+use Rattle.wasm_ast.specs.declared.instr.BlockKind.{BlockKind}
+use Rattle.wasm_ast.specs.declared.instr.BlockKind.TheVariants as kind
 use Rattle.wasm_ast.specs.declared.instr.MemArg.{MemArg}
 use Rattle.wasm_ast.specs.declared.opcode.Opcode.{Opcode}
 use Rattle.wasm_ast.specs.declared.opcode.Opcode.TheVariants as op
 use Rattle.wasm_ast.specs.declared.opcode.AtomicOpcode.{AtomicOpcode}
 use Rattle.wasm_ast.specs.declared.opcode.AtomicOpcode.TheVariants as atomic
 use Rattle.wasm_ast.specs.declared.opcode.TheConstants.{OPCODES, ATOMIC_OPCODES}
-use Rattle.wasm_ast.specs.Sequence.{Sequence, Empty, Plain, Block, Loop, If}
+use Rattle.wasm_ast.specs.Sequence.{Sequence, Empty, Plain, Block, If}
 use Rattle.wasm_ast.specs.Spelling.{Joined, SpellsU32, SpellsVec}
 use Rattle.wasm_ast.specs.SpelledTypes.{SpellsBlockType}
 
@@ -77,14 +79,17 @@ abbrev pub Opens : Opcode → (List ℕ → Type 0) → List ℕ → Type 0
 Opens of P [] = ⊥
 Opens of P (b ∷ bytes) = (opcode_at b ≡ of) × P bytes
 
+-- what begins a block or a loop
+abbrev pub block_opcode : BlockKind → Opcode
+block_opcode kind.Block = op.Block
+block_opcode kind.Loop = op.Loop
+
 -- instr* (5.4.1)
 abbrev pub SpellsSequence : List ℕ → Sequence → Type 0
 SpellsSequence bytes Empty = bytes ≡ []
 SpellsSequence bytes (Plain i rest) = Joined (λ a. SpellsPlain a i) (λ b. SpellsSequence b rest) bytes
-SpellsSequence bytes (Block of body rest) =
-    Opens op.Block (Joined (λ a. SpellsBlockType a of) (Joined (λ b. SpellsSequence b body) (Opens op.End (λ c. SpellsSequence c rest)))) bytes
-SpellsSequence bytes (Loop of body rest) =
-    Opens op.Loop (Joined (λ a. SpellsBlockType a of) (Joined (λ b. SpellsSequence b body) (Opens op.End (λ c. SpellsSequence c rest)))) bytes
+SpellsSequence bytes (Block k of body rest) =
+    Opens (block_opcode k) (Joined (λ a. SpellsBlockType a of) (Joined (λ b. SpellsSequence b body) (Opens op.End (λ c. SpellsSequence c rest)))) bytes
 SpellsSequence bytes (If of then otherwise rest) =
     Opens op.If (Joined (λ a. SpellsBlockType a of) (λ x.
     (Joined (λ b. SpellsSequence b then) (Opens op.End (λ c. SpellsSequence c rest)) x × (otherwise ≡ Empty))
