@@ -1,3 +1,5 @@
 pub mod LocalsLemmas
 pub mod NumberingLemmas
 pub mod TextOrder
+pub mod BuilderLemmas
+pub mod NumberedOnce

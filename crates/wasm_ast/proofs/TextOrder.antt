@@ -233,6 +233,11 @@ from_first lists top e h n = list_names (Within (0 + n) top) (Within n (length l
 pub inner_later : (s : Sequence) → AllPlain s → Later (inner_lists 0 s)
 inner_later s p = from_first (inner_lists 0 s) (count s) (sym (length-inner_lists 0 s)) (inner_names (count s) 0 s p (omega arith))
 
+pub lists_later : (s : Sequence) → AllPlain s → Later (lists_of s)
+lists_later s p =
+    let top = 1 + count s in
+    from_first (lists_of s) top (omega (arith, length-inner_lists 1 s)) (own_names 0 top 1 s p (omega arith) (omega arith), inner_names top 1 s p (omega arith))
+
 -- what fits each list is the sequence of each
 module _ (lists : List (List Instr)) (F : ℕ → Sequence) (later : Later lists) (fits : (n : ℕ) → sequence F (list_at lists n) ≡ F n) where
   within_is : (d n : ℕ) → length lists ≤ d + n → within lists d n ≡ F n
