@@ -3,3 +3,4 @@ pub mod NumberingLemmas
 pub mod TextOrder
 pub mod BuilderLemmas
 pub mod NumberedOnce
+pub mod WalkLemmas

@@ -12,6 +12,7 @@ mod opcode;
 mod operators;
 mod position;
 mod types;
+mod walk;
 
 pub use body::Body;
 pub use builder::BodyBuilder;
@@ -27,3 +28,4 @@ pub use module::{
 pub use opcode::{ATOMIC_OPCODES, AtomicOpcode, OPCODES, Opcode};
 pub use position::Position;
 pub use types::{FuncType, IntType, Limits, ValType};
+pub use walk::{Event, Walk};
