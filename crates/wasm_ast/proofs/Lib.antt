@@ -1,5 +1,6 @@
 pub mod LocalsLemmas
 pub mod NumberingLemmas
+pub mod OpcodeLaws
 pub mod TextOrder
 pub mod BuilderLemmas
 pub mod NumberedOnce

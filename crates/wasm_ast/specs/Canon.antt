@@ -18,8 +18,8 @@ use Rattle.wasm_ast.specs.declared.module.Code.{Code}
 use Rattle.wasm_ast.specs.declared.module.Module.{Module}
 use Rattle.wasm_ast.specs.SpelledTypes.{valtype_byte}
 use Rattle.wasm_ast.specs.SpelledModule.{preamble}
-use Rattle.wasm_ast.specs.Shortest.{shortest_unsigned}
-use Rattle.wasm_ast.specs.CanonInstr.{canon_vec, canon_expr}
+use Rattle.wasm_ast.specs.Shortest.{shortest_unsigned, canon_vec}
+use Rattle.wasm_ast.specs.CanonInstr.{canon_expr}
 
 -- bytes, in front of them how many there are (5.1.3, 5.2.4)
 abbrev pub canon_bytes : List ℕ → List ℕ

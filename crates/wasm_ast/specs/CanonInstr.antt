@@ -1,189 +1,24 @@
 -- Instructions as they are written: the spelling of the fewest bytes, WebAssembly Core 1.0, section
 -- 5.4, and the threads proposal.
-use Rattle.std.specs.Prelude.{ℕ, ◌+◌, ◌*◌, List, [], ◌∷◌, ◌++◌, length, Option, Some, None}
-use Rattle.std.specs.List.{flat_map}
+use Rattle.std.specs.Prelude.{ℕ, List, [], ◌∷◌, ◌++◌, Option, Some, None}
 use Rattle.wasm_ast.specs.declared.types.ValType.{ValType}
-use Rattle.wasm_ast.specs.declared.types.IntType.TheVariants as int
-use Rattle.wasm_ast.specs.declared.instr.CompareOp.{CompareOp}
-use Rattle.wasm_ast.specs.declared.instr.CompareOp.TheVariants.{Eq, Ne, LtS, LtU, GtS, GtU, LeS, LeU, GeS, GeU}
-use Rattle.wasm_ast.specs.declared.instr.UnaryOp.{UnaryOp}
-use Rattle.wasm_ast.specs.declared.instr.UnaryOp.TheVariants.{Clz, Ctz, Popcnt}
-use Rattle.wasm_ast.specs.declared.instr.BinaryOp.{BinaryOp}
-use Rattle.wasm_ast.specs.declared.instr.BinaryOp.TheVariants as binary
-use Rattle.wasm_ast.specs.declared.instr.ConvertOp.TheVariants.{Wrap, ExtendS, ExtendU}
-use Rattle.wasm_ast.specs.declared.instr.NumericOp.{NumericOp}
-use Rattle.wasm_ast.specs.declared.instr.NumericOp.TheVariants.{Eqz, Compare, Unary, Binary, Convert}
-use Rattle.wasm_ast.specs.declared.instr.VariableOp.{VariableOp}
-use Rattle.wasm_ast.specs.declared.instr.VariableOp.TheVariants.{LocalGet, LocalSet, LocalTee, GlobalGet, GlobalSet}
-use Rattle.wasm_ast.specs.declared.instr.Form.{Form}
-use Rattle.wasm_ast.specs.declared.instr.Form.TheVariants as form
-use Rattle.wasm_ast.specs.declared.instr.LoadOp.{LoadOp}
-use Rattle.wasm_ast.specs.declared.instr.LoadOp.TheVariants as load
-use Rattle.wasm_ast.specs.declared.instr.RmwOp.{RmwOp}
-use Rattle.wasm_ast.specs.declared.instr.RmwOp.TheVariants as rmw
-use Rattle.wasm_ast.specs.declared.instr.Access.{Access}
-use Rattle.wasm_ast.specs.declared.instr.Access.TheVariants.{Load, Store, Notify, Wait, AtomicLoad, AtomicStore, AtomicRmw, AtomicCompareExchange}
-use Rattle.wasm_ast.specs.declared.instr.MemArg.{MemArg}
 use Rattle.wasm_ast.specs.declared.instr.Instr.{Instr}
 use Rattle.wasm_ast.specs.declared.instr.Instr.TheVariants as instr
-use Rattle.wasm_ast.specs.declared.instr.BlockKind.{BlockKind}
-use Rattle.wasm_ast.specs.declared.instr.BlockKind.TheVariants as kind
 use Rattle.wasm_ast.specs.Sequence.{Sequence, Empty, Plain, Block, If}
 use Rattle.wasm_ast.specs.SpelledTypes.{valtype_byte}
-use Rattle.wasm_ast.specs.Shortest.{shortest_unsigned, shortest_signed}
-
--- how many there are, and each
-abbrev pub canon_vec : {X : Type 0} → (X → List ℕ) → List X → List ℕ
-canon_vec written xs = shortest_unsigned (length xs) ++ flat_map written xs
+use Rattle.wasm_ast.specs.Immediates.{shortest}
+use Rattle.wasm_ast.specs.Opcodes.{block_byte, encoding}
 
 -- blocktype (5.3.2)
 abbrev pub block_type_byte : Option ValType → ℕ
 block_type_byte None = 0x40
 block_type_byte (Some of) = valtype_byte of
 
--- the place of a comparison among those of its type
-abbrev pub compare_place : CompareOp → ℕ
-compare_place Eq = 0
-compare_place Ne = 1
-compare_place LtS = 2
-compare_place LtU = 3
-compare_place GtS = 4
-compare_place GtU = 5
-compare_place LeS = 6
-compare_place LeU = 7
-compare_place GeS = 8
-compare_place GeU = 9
-
-abbrev pub unary_place : UnaryOp → ℕ
-unary_place Clz = 0
-unary_place Ctz = 1
-unary_place Popcnt = 2
-
-abbrev pub binary_place : BinaryOp → ℕ
-binary_place binary.Add = 0
-binary_place binary.Sub = 1
-binary_place binary.Mul = 2
-binary_place binary.DivS = 3
-binary_place binary.DivU = 4
-binary_place binary.RemS = 5
-binary_place binary.RemU = 6
-binary_place binary.And = 7
-binary_place binary.Or = 8
-binary_place binary.Xor = 9
-binary_place binary.Shl = 10
-binary_place binary.ShrS = 11
-binary_place binary.ShrU = 12
-binary_place binary.Rotl = 13
-binary_place binary.Rotr = 14
-
--- the opcode of a numeric instruction (5.4.5)
-abbrev pub numeric_opcode : NumericOp → ℕ
-numeric_opcode (Eqz int.I32) = 0x45
-numeric_opcode (Eqz int.I64) = 0x50
-numeric_opcode (Compare int.I32 op) = 0x46 + compare_place op
-numeric_opcode (Compare int.I64 op) = 0x51 + compare_place op
-numeric_opcode (Unary int.I32 op) = 0x67 + unary_place op
-numeric_opcode (Unary int.I64 op) = 0x79 + unary_place op
-numeric_opcode (Binary int.I32 op) = 0x6A + binary_place op
-numeric_opcode (Binary int.I64 op) = 0x7C + binary_place op
-numeric_opcode (Convert Wrap) = 0xA7
-numeric_opcode (Convert ExtendS) = 0xAC
-numeric_opcode (Convert ExtendU) = 0xAD
-
--- the opcode of a variable instruction (5.4.3)
-abbrev pub variable_opcode : VariableOp → ℕ
-variable_opcode LocalGet = 0x20
-variable_opcode LocalSet = 0x21
-variable_opcode LocalTee = 0x22
-variable_opcode GlobalGet = 0x23
-variable_opcode GlobalSet = 0x24
-
--- the opcode of a load (5.4.4)
-abbrev pub load_opcode : LoadOp → ℕ
-load_opcode load.I32 = 0x28
-load_opcode load.I64 = 0x29
-load_opcode load.I32From8S = 0x2C
-load_opcode load.I32From8U = 0x2D
-load_opcode load.I32From16S = 0x2E
-load_opcode load.I32From16U = 0x2F
-load_opcode load.I64From8S = 0x30
-load_opcode load.I64From8U = 0x31
-load_opcode load.I64From16S = 0x32
-load_opcode load.I64From16U = 0x33
-load_opcode load.I64From32S = 0x34
-load_opcode load.I64From32U = 0x35
-
--- the opcode of a store (5.4.4)
-abbrev pub store_opcode : Form → ℕ
-store_opcode form.I32 = 0x36
-store_opcode form.I64 = 0x37
-store_opcode form.I32Low8 = 0x3A
-store_opcode form.I32Low16 = 0x3B
-store_opcode form.I64Low8 = 0x3C
-store_opcode form.I64Low16 = 0x3D
-store_opcode form.I64Low32 = 0x3E
-
--- the place of a form among the seven of an atomic operator
-abbrev pub form_place : Form → ℕ
-form_place form.I32 = 0
-form_place form.I64 = 1
-form_place form.I32Low8 = 2
-form_place form.I32Low16 = 3
-form_place form.I64Low8 = 4
-form_place form.I64Low16 = 5
-form_place form.I64Low32 = 6
-
--- the byte behind FE of an atomic read, modify and write of a whole i32; the other forms follow it
-abbrev pub rmw_opcode : RmwOp → ℕ
-rmw_opcode rmw.Add = 0x1E
-rmw_opcode rmw.Sub = 0x25
-rmw_opcode rmw.And = 0x2C
-rmw_opcode rmw.Or = 0x33
-rmw_opcode rmw.Xor = 0x3A
-rmw_opcode rmw.Exchange = 0x41
-
--- the opcode of an access: one byte, or FE and one (5.4.4, and the threads proposal)
-abbrev pub access_opcode : Access → List ℕ
-access_opcode (Load op) = load_opcode op ∷ []
-access_opcode (Store of) = store_opcode of ∷ []
-access_opcode Notify = 0xFE ∷ 0x00 ∷ []
-access_opcode (Wait int.I32) = 0xFE ∷ 0x01 ∷ []
-access_opcode (Wait int.I64) = 0xFE ∷ 0x02 ∷ []
-access_opcode (AtomicLoad of) = 0xFE ∷ (0x10 + form_place of) ∷ []
-access_opcode (AtomicStore of) = 0xFE ∷ (0x17 + form_place of) ∷ []
-access_opcode (AtomicRmw op of) = 0xFE ∷ (rmw_opcode op + form_place of) ∷ []
-access_opcode (AtomicCompareExchange of) = 0xFE ∷ (0x48 + form_place of) ∷ []
-
--- An instruction that has no inner instructions (5.4). A block, a loop and an if don't come here. Of
--- an instruction on floats nothing is known: the byte of f32.eq stands for it.
+-- An instruction that has no inner instructions: its opcode and its immediates. Of an instruction on
+-- floats nothing is known: the byte of f32.eq stands for it.
 abbrev pub canon_plain : Instr → List ℕ
-canon_plain instr.Unreachable = 0x00 ∷ []
-canon_plain instr.Nop = 0x01 ∷ []
-canon_plain (instr.Block of body) = []
-canon_plain (instr.Loop of body) = []
-canon_plain (instr.If of then otherwise) = []
-canon_plain (instr.Br label) = 0x0C ∷ shortest_unsigned label
-canon_plain (instr.BrIf label) = 0x0D ∷ shortest_unsigned label
-canon_plain (instr.BrTable targets) = 0x0E ∷ canon_vec shortest_unsigned targets.0 ++ shortest_unsigned targets.1
-canon_plain instr.Return = 0x0F ∷ []
-canon_plain (instr.Call function) = 0x10 ∷ shortest_unsigned function
-canon_plain (instr.CallIndirect of) = 0x11 ∷ shortest_unsigned of ++ 0x00 ∷ []
-canon_plain instr.Drop = 0x1A ∷ []
-canon_plain instr.Select = 0x1B ∷ []
-canon_plain (instr.Variable op index) = variable_opcode op ∷ shortest_unsigned index
-canon_plain (instr.Access op arg) = access_opcode op ++ shortest_unsigned arg.align ++ shortest_unsigned arg.offset
-canon_plain instr.MemorySize = 0x3F ∷ 0x00 ∷ []
-canon_plain instr.MemoryGrow = 0x40 ∷ 0x00 ∷ []
-canon_plain instr.Fence = 0xFE ∷ 0x03 ∷ 0x00 ∷ []
-canon_plain (instr.I32Const value) = 0x41 ∷ shortest_signed value
-canon_plain (instr.I64Const value) = 0x42 ∷ shortest_signed value
-canon_plain (instr.Numeric op) = numeric_opcode op ∷ []
 canon_plain instr.Float = 0x5B ∷ []
-
--- the opcode of a block or a loop (5.4.1)
-abbrev pub block_byte : BlockKind → ℕ
-block_byte kind.Block = 0x02
-block_byte kind.Loop = 0x03
+canon_plain i = (encoding i).opcode ++ shortest (encoding i).immediates (encoding i).value
 
 -- the second arm of an if, by its sequence and that written; nothing where it is empty
 abbrev pub canon_else : Sequence → List ℕ → List ℕ

@@ -12,6 +12,9 @@ pub mod Types
 pub mod Operators
 pub mod Spelling
 pub mod SpelledTypes
+pub mod Immediates
+pub mod Opcodes
+pub mod OpcodeTables
 pub mod SpelledInstr
 pub mod SpelledModule
 pub mod Typing

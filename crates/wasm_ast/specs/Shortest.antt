@@ -1,6 +1,7 @@
--- The shortest spellings of numbers: WebAssembly Core 1.0, section 5.2.2. Of at most 64 bits, so of at
--- most ten bytes.
-use Rattle.std.specs.Prelude.{ℕ, zero, suc, ◌+◌, ◌/◌, ◌%◌, nat_lt, Bool, ◌&&◌, if◌then◌else◌, List, [], ◌∷◌, ℤ, pos, ◌-ℤ◌, int_le, int_lt, unsigned_abs}
+-- The shortest spellings of numbers, of at most 64 bits, so of at most ten bytes, and of vectors: WebAssembly
+-- Core 1.0, sections 5.2.2 and 5.1.3.
+use Rattle.std.specs.Prelude.{ℕ, zero, suc, ◌+◌, ◌/◌, ◌%◌, nat_lt, Bool, ◌&&◌, if◌then◌else◌, List, [], ◌∷◌, ◌++◌, length, ℤ, pos, ◌-ℤ◌, int_le, int_lt, unsigned_abs}
+use Rattle.std.specs.List.{flat_map}
 use Rattle.std.specs.Int.{int_div_euclid, int_rem_euclid}
 
 -- seven bits a byte, the lowest first, with at most so many bytes behind the first
@@ -27,3 +28,7 @@ signed_within (suc more) z = if is_small z then low_bits z ∷ [] else (128 + lo
 -- sN
 unfoldable pub shortest_signed : ℤ → List ℕ
 shortest_signed z = signed_within 9 z
+
+-- how many there are, and each
+abbrev pub canon_vec : {X : Type 0} → (X → List ℕ) → List X → List ℕ
+canon_vec written xs = shortest_unsigned (length xs) ++ flat_map written xs

@@ -25,7 +25,7 @@ pub use locals::{LocalGroup, Locals};
 pub use module::{
     Code, Element, Export, ExportKind, GlobalVar, Import, ImportKind, Module, Segment,
 };
-pub use opcode::{ATOMIC_OPCODES, AtomicOpcode, OPCODES, Opcode};
+pub use opcode::{ATOMIC_OPCODES, AtomicOpcode, OPCODES, Opcode, opcodes_are_encodings};
 pub use position::Position;
 pub use types::{FuncType, IntType, Limits, ValType};
 pub use walk::{Event, Walk};

@@ -1,4 +1,9 @@
 // What an opcode begins: WebAssembly Core 1.0, sections 5.4 and A.7, and the threads proposal.
+ghost use Rattle.std.specs.Prelude.{◌≡◌, ◌↔◌, ◌∷◌, List, ℕ};
+ghost use Rattle.wasm_ast.specs.declared.instr.Instr.{Instr};
+ghost use Rattle.wasm_ast.specs.SpelledInstr.{SpellsPlain};
+ghost use Rattle.wasm_ast.specs.OpcodeTables.{opcode_at, control, SpellsBehind};
+
 use super::instr::{
     Access, BinaryOp, CompareOp, ConvertOp, Form, LoadOp, NumericOp, RmwOp, UnaryOp, VariableOp,
 };
@@ -434,3 +439,9 @@ pub static ATOMIC_OPCODES: [AtomicOpcode; 79] = [
     AtomicOpcode::Access(Access::AtomicCompareExchange(Form::I64Low16)),
     AtomicOpcode::Access(Access::AtomicCompareExchange(Form::I64Low32)),
 ];
+
+/// At each byte the tables hold what the encoding of instructions says.
+pub fn opcodes_are_encodings()
+    ensures plain { (b : ℕ) (bytes : List ℕ) (i : Instr) → SpellsPlain (b ∷ bytes) i ↔ SpellsBehind (opcode_at b) bytes i }
+    ensures control { (b : ℕ) (of : Opcode) (c : ℕ) → control of ≡ Some c → opcode_at b ≡ of ↔ b ≡ c }
+{}

@@ -3,29 +3,21 @@ use Rattle.std.proofs.Common.{◌≡◌, ◌⊎◌, inl, inr, ℕ, List, [], ◌
 use Rattle.std.proofs.lemmas.List.{append-nil}
 use Rattle.wasm_ast.specs.declared.types.ValType.{ValType}
 use Rattle.std.specs.Prelude.{Option}
-use Rattle.wasm_ast.specs.declared.opcode.Opcode.{Opcode}
-use Rattle.wasm_ast.specs.declared.opcode.Opcode.TheVariants as op
 use Rattle.wasm_ast.specs.Sequence.{Sequence, Empty, Plain, Block, Loop, If}
-use Rattle.wasm_ast.specs.Spelling.{Joined}
+use Rattle.wasm_ast.specs.Spelling.{Joined, Behind}
 use Rattle.wasm_ast.specs.SpelledTypes.{SpellsBlockType}
-use Rattle.wasm_ast.specs.SpelledInstr.{opcode_at, Opens, SpellsSequence, SpellsExpr}
+use Rattle.wasm_ast.specs.SpelledInstr.{SpellsSequence, SpellsExpr}
 use Rattle.wasm_ast.specs.CanonInstr.{block_type_byte, canon_plain, canon_else, canon_sequence, canon_expr}
 use Rattle.wasm_encode.proofs.LeastNumbers.{AreBytes, bytes_split, Least}
-use Rattle.wasm_encode.proofs.LeastParts.{IsLeast, fixed, joined_least}
+use Rattle.wasm_encode.proofs.LeastParts.{IsLeast, fixed, joined_least, behind_least}
 use Rattle.wasm_encode.proofs.LeastTypes.{blocktype_least}
 use Rattle.wasm_encode.proofs.LeastInstrs.{plain_least}
 
-opens_least : {P : List ℕ → Type 0} (o : Opcode) (c : ℕ) (bytes w : List ℕ) → AreBytes bytes → Opens o P bytes → opcode_at c ≡ o → ((rest : List ℕ) → AreBytes rest → P rest → Least P rest w) → Least (Opens o P) bytes (c ∷ w)
-opens_least {P} o c [] w a s e f = absurd s
-opens_least {P} o c (b ∷ bytes) w a s e f =
-    let p : Least P bytes w = f bytes a.1 s.1 in
-    record { spells = (e, p.spells); least = omega (arith, p.least) }
-
 -- a block type behind an opcode, and what is behind it
-typed_least : {P : List ℕ → Type 0} (o : Opcode) (c : ℕ) (of : Option ValType) (bytes w : List ℕ) → AreBytes bytes → Opens o (Joined (λ a. SpellsBlockType a of) P) bytes → opcode_at c ≡ o →
-    ((x : List ℕ) → AreBytes x → P x → Least P x w) → Least (Opens o (Joined (λ a. SpellsBlockType a of) P)) bytes (c ∷ block_type_byte of ∷ w)
-typed_least {P} o c of bytes w a s e f =
-    opens_least o c bytes (block_type_byte of ∷ w) a s e (λ x b j. joined_least x (block_type_byte of ∷ []) w b j (λ d. blocktype_least j.front of d j.first) (λ d. f j.back d j.second))
+typed_least : {P : List ℕ → Type 0} (c : ℕ) (of : Option ValType) (bytes w : List ℕ) → AreBytes bytes → Behind c (Joined (λ a. SpellsBlockType a of) P) bytes →
+    ((x : List ℕ) → AreBytes x → P x → Least P x w) → Least (Behind c (Joined (λ a. SpellsBlockType a of) P)) bytes (c ∷ block_type_byte of ∷ w)
+typed_least {P} c of bytes w a s f =
+    behind_least c bytes (block_type_byte of ∷ w) a s (λ x b j. joined_least x (block_type_byte of ∷ []) w b j (λ d. blocktype_least j.front of d j.first) (λ d. f j.back d j.second))
 
 -- what stands in an else, behind its byte
 else_written : (s : Sequence) (w : List ℕ) → ((s ≡ Empty) × (canon_else s w ≡ [])) ⊎ (canon_else s w ≡ 0x05 ∷ w)
@@ -33,37 +25,37 @@ else_written Empty w = inl (refl, refl)
 else_written s w = inr refl
 
 -- a part, the end, and what is behind it
-inner_least : {P Q : List ℕ → Type 0} (bytes v w : List ℕ) → AreBytes bytes → Joined P (Opens op.End Q) bytes → ((x : List ℕ) → AreBytes x → P x → Least P x v) →
-    ((x : List ℕ) → AreBytes x → Q x → Least Q x w) → Least (Joined P (Opens op.End Q)) bytes (v ++ 0x0B ∷ w)
+inner_least : {P Q : List ℕ → Type 0} (bytes v w : List ℕ) → AreBytes bytes → Joined P (Behind 0x0B Q) bytes → ((x : List ℕ) → AreBytes x → P x → Least P x v) →
+    ((x : List ℕ) → AreBytes x → Q x → Least Q x w) → Least (Joined P (Behind 0x0B Q)) bytes (v ++ 0x0B ∷ w)
 inner_least {P} {Q} bytes v w a j f g =
-    joined_least bytes v (0x0B ∷ w) a j (λ b. f j.front b j.first) (λ b. opens_least op.End 0x0B j.back w b j.second refl g)
+    joined_least bytes v (0x0B ∷ w) a j (λ b. f j.front b j.first) (λ b. behind_least 0x0B j.back w b j.second g)
 
 -- what stands behind the type of an if
 abbrev Arms : (List ℕ → Type 0) → Sequence → (List ℕ → Type 0) → List ℕ → Type 0
 Arms P otherwise Q x =
-    (Joined P (Opens op.End Q) x × (otherwise ≡ Empty))
-    ⊎ Joined P (Opens op.Else (Joined (λ c. SpellsSequence c otherwise) (Opens op.End Q))) x
+    (Joined P (Behind 0x0B Q) x × (otherwise ≡ Empty))
+    ⊎ Joined P (Behind 0x05 (Joined (λ c. SpellsSequence c otherwise) (Behind 0x0B Q))) x
 
 module _ {P Q : List ℕ → Type 0} (v w : List ℕ) (otherwise : Sequence) (f : (x : List ℕ) → AreBytes x → P x → Least P x v)
     (h : (x : List ℕ) → AreBytes x → SpellsSequence x otherwise → Least (λ c. SpellsSequence c otherwise) x (canon_sequence otherwise))
     (g : (x : List ℕ) → AreBytes x → Q x → Least Q x w) where
   -- with no else
-  short_arms : (bytes written : List ℕ) → otherwise ≡ Empty → written ≡ [] → Least (Joined P (Opens op.End Q)) bytes (v ++ 0x0B ∷ w) → Least (Arms P otherwise Q) bytes (v ++ written ++ 0x0B ∷ w)
+  short_arms : (bytes written : List ℕ) → otherwise ≡ Empty → written ≡ [] → Least (Joined P (Behind 0x0B Q)) bytes (v ++ 0x0B ∷ w) → Least (Arms P otherwise Q) bytes (v ++ written ++ 0x0B ∷ w)
   short_arms bytes written e k p =
       let same : v ++ 0x0B ∷ w ≡ v ++ written ++ 0x0B ∷ w = ap (λ z. z ++ 0x0B ∷ w) (sym (append-nil v) ∙ ap (λ z. v ++ z) (sym k)) in
       subst (λ z. Least (Arms P otherwise Q) bytes z) same (record { spells = inl (p.spells, e); least = p.least })
 
   -- an else is left out
-  left_out : (bytes : List ℕ) → AreBytes bytes → Joined P (Opens op.Else (Joined (λ c. SpellsSequence c otherwise) (Opens op.End Q))) bytes → Least (Joined P (Opens op.End Q)) bytes (v ++ 0x0B ∷ w)
+  left_out : (bytes : List ℕ) → AreBytes bytes → Joined P (Behind 0x05 (Joined (λ c. SpellsSequence c otherwise) (Behind 0x0B Q))) bytes → Least (Joined P (Behind 0x0B Q)) bytes (v ++ 0x0B ∷ w)
   left_out bytes a j = part j.back refl j.second where
-    part : (back : List ℕ) → j.back ≡ back → Opens op.Else (Joined (λ c. SpellsSequence c otherwise) (Opens op.End Q)) back → Least (Joined P (Opens op.End Q)) bytes (v ++ 0x0B ∷ w)
+    part : (back : List ℕ) → j.back ≡ back → Behind 0x05 (Joined (λ c. SpellsSequence c otherwise) (Behind 0x0B Q)) back → Least (Joined P (Behind 0x0B Q)) bytes (v ++ 0x0B ∷ w)
     part [] e s = absurd s
     part (b ∷ back) e s =
         let k = s.1 in
         let c = bytes_split j.front j.back (subst AreBytes j.parts a) in
         let d = bytes_split k.front k.back (subst AreBytes k.parts (subst AreBytes e c.1).1) in
         let p : Least P j.front v = f j.front c.0 j.first in
-        let q : Least (Opens op.End Q) k.back (0x0B ∷ w) = opens_least op.End 0x0B k.back w d.1 k.second refl g in
+        let q : Least (Behind 0x0B Q) k.back (0x0B ∷ w) = behind_least 0x0B k.back w d.1 k.second g in
         record {
           spells = record { front = v; back = 0x0B ∷ w; parts = refl; first = p.spells; second = q.spells };
           least = omega (arith, p.least, q.least, ap length j.parts, ap length k.parts, ap length e, length-append j.front j.back, length-append k.front k.back, length-append v (0x0B ∷ w));
@@ -78,7 +70,7 @@ module _ {P Q : List ℕ → Type 0} (v w : List ℕ) (otherwise : Sequence) (f 
           | inl e ↦ short_arms bytes (canon_else otherwise u) e.0 e.1 (left_out bytes a j)
           | inr e ↦
               let p = joined_least bytes v (0x05 ∷ (u ++ 0x0B ∷ w)) a j (λ b. f j.front b j.first)
-              (λ b. opens_least op.Else 0x05 j.back (u ++ 0x0B ∷ w) b j.second refl (λ more c k. inner_least more u w c k h g)) in
+              (λ b. behind_least 0x05 j.back (u ++ 0x0B ∷ w) b j.second (λ more c k. inner_least more u w c k h g)) in
               let same : v ++ (0x05 ∷ (u ++ 0x0B ∷ w)) ≡ v ++ canon_else otherwise u ++ 0x0B ∷ w = sym (ap (λ z. v ++ z ++ 0x0B ∷ w) e ∙ append_assoc v (0x05 ∷ u) (0x0B ∷ w)) in
               subst (λ z. Least (Arms P otherwise Q) bytes z) same (record { spells = inr p.spells; least = p.least })
         ]
@@ -89,13 +81,13 @@ sequence_least Empty bytes a s = fixed bytes [] s
 sequence_least (Plain i rest) bytes a s =
     joined_least bytes (canon_plain i) (canon_sequence rest) a s (λ b. plain_least s.front i b s.first) (λ b. sequence_least rest s.back b s.second)
 sequence_least (Block of body rest) bytes a s =
-    typed_least op.Block 0x02 of bytes (canon_sequence body ++ 0x0B ∷ canon_sequence rest) a s refl
+    typed_least 0x02 of bytes (canon_sequence body ++ 0x0B ∷ canon_sequence rest) a s
     (λ x b j. inner_least x (canon_sequence body) (canon_sequence rest) b j (λ y c t. sequence_least body y c t) (λ y c t. sequence_least rest y c t))
 sequence_least (Loop of body rest) bytes a s =
-    typed_least op.Loop 0x03 of bytes (canon_sequence body ++ 0x0B ∷ canon_sequence rest) a s refl
+    typed_least 0x03 of bytes (canon_sequence body ++ 0x0B ∷ canon_sequence rest) a s
     (λ x b j. inner_least x (canon_sequence body) (canon_sequence rest) b j (λ y c t. sequence_least body y c t) (λ y c t. sequence_least rest y c t))
 sequence_least (If of then otherwise rest) bytes a s =
-    typed_least op.If 0x04 of bytes (canon_sequence then ++ canon_else otherwise (canon_sequence otherwise) ++ 0x0B ∷ canon_sequence rest) a s refl
+    typed_least 0x04 of bytes (canon_sequence then ++ canon_else otherwise (canon_sequence otherwise) ++ 0x0B ∷ canon_sequence rest) a s
     (λ x b j. arms_least (canon_sequence then) (canon_sequence rest) otherwise (λ y c t. sequence_least then y c t) (λ y c t. sequence_least otherwise y c t) (λ y c t. sequence_least rest y c t) x b j)
 
 pub expr_least : IsLeast SpellsExpr canon_expr

@@ -7,7 +7,8 @@ use Rattle.wasm_ast.specs.Types.{same_type}
 use Rattle.wasm_ast.specs.Locals.{total, joined, added, AreMerged}
 use Rattle.wasm_ast.proofs.LocalsLemmas.{total-joined, merged-joined}
 use Rattle.wasm_ast.specs.Shortest.{shortest_unsigned}
-use Rattle.wasm_ast.specs.CanonInstr.{canon_vec, canon_expr}
+use Rattle.wasm_ast.specs.CanonInstr.{canon_expr}
+use Rattle.wasm_ast.specs.Shortest.{canon_vec}
 use Rattle.wasm_ast.specs.Canon.{canon_group, canon_func, canon_code}
 use Rattle.wasm_ast.specs.SpelledTypes.{valtype_byte}
 use Rattle.wasm_ast.specs.Spelling.{SpellsEach, SpellsVec}

@@ -3,7 +3,8 @@ use Rattle.std.proofs.Common.{ℕ, List, ◌++◌, sym, subst, append_assoc}
 use Rattle.wasm_ast.specs.declared.module.ImportKind.TheVariants as imported
 use Rattle.wasm_ast.specs.declared.module.ExportKind.TheVariants as exported
 use Rattle.wasm_ast.specs.Shortest.{shortest_unsigned}
-use Rattle.wasm_ast.specs.CanonInstr.{canon_vec, canon_expr}
+use Rattle.wasm_ast.specs.CanonInstr.{canon_expr}
+use Rattle.wasm_ast.specs.Shortest.{canon_vec}
 use Rattle.wasm_ast.specs.Canon.{canon_bytes, canon_memory, canon_table, canon_global_type, canon_import_kind, canon_import, canon_global, canon_export_kind, canon_export, canon_element, canon_segment}
 use Rattle.wasm_ast.specs.Spelling.{Joined}
 use Rattle.wasm_ast.specs.SpelledModule.{SpellsImportKind, SpellsImport, SpellsGlobal, SpellsExportKind, SpellsExport, SpellsElement, SpellsSegment}

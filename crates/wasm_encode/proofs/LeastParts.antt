@@ -2,7 +2,7 @@
 use Rattle.std.proofs.Common.{◌≡◌, ℕ, ◌≤◌, List, [], ◌∷◌, ◌++◌, length, refl, ap, subst, arith, length-append}
 use Rattle.std.specs.List.{flat_map}
 use Rattle.wasm_ast.specs.Shortest.{shortest_unsigned}
-use Rattle.wasm_ast.specs.CanonInstr.{canon_vec}
+use Rattle.wasm_ast.specs.Shortest.{canon_vec}
 use Rattle.wasm_ast.specs.Canon.{canon_bytes}
 use Rattle.wasm_ast.specs.Spelling.{Joined, Behind, SpellsU32, SpellsEach, SpellsVec, SpellsBytes, SpellsName, Sized}
 use Rattle.wasm_encode.proofs.LeastNumbers.{AreBytes, bytes_split, Least, u32_least}

@@ -1,7 +1,8 @@
 // Instructions that have no inner instructions: WebAssembly Core 1.0, section 5.4, and the threads
 // proposal.
 ghost use Rattle.std.specs.Prelude.{◌≡◌, ◌<◌, ◌++◌, OnOk};
-ghost use Rattle.wasm_ast.specs.CanonInstr.{compare_place, unary_place, binary_place, numeric_opcode, variable_opcode, load_opcode, store_opcode, form_place, rmw_opcode, access_opcode, canon_plain};
+ghost use Rattle.wasm_ast.specs.Opcodes.{compare_place, unary_place, binary_place, numeric_opcode, variable_opcode, load_opcode, store_opcode, form_place, rmw_opcode, access_opcode};
+ghost use Rattle.wasm_ast.specs.CanonInstr.{canon_plain};
 ghost use Rattle.wasm_ast.specs.Shortest.{shortest_unsigned};
 
 use crate::numbers::write_signed;

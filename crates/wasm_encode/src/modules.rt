@@ -1,6 +1,6 @@
 // Modules: WebAssembly Core 1.0, section 5.5.
 ghost use Rattle.std.specs.Prelude.{◌≡◌, ◌++◌, IfOk, OnOk};
-ghost use Rattle.wasm_ast.specs.CanonInstr.{canon_vec};
+ghost use Rattle.wasm_ast.specs.Shortest.{canon_vec};
 ghost use Rattle.wasm_ast.specs.Canon.{canon_table, canon_section, canon_list, canon_start, canon};
 
 use crate::numbers::write_unsigned;

@@ -6,7 +6,7 @@ use Rattle.wasm_ast.specs.declared.instr.Instr.{Instr}
 use Rattle.wasm_ast.specs.declared.opcode.Opcode.{Opcode}
 use Rattle.wasm_ast.specs.declared.opcode.Opcode.TheVariants as op
 use Rattle.wasm_ast.specs.Sequence.{Sequence, Empty, Plain, Block, Loop, If}
-use Rattle.wasm_ast.specs.SpelledInstr.{opcode_at}
+use Rattle.wasm_ast.specs.OpcodeTables.{opcode_at}
 use Rattle.wasm_ast.specs.Numbering.{IsNumbered, nested}
 use Rattle.wasm_reading.specs.declared.exprs.Filling.{Filling}
 use Rattle.wasm_reading.specs.declared.exprs.Shape.TheVariants as shape

@@ -7,7 +7,7 @@ use Rattle.wasm_ast.specs.declared.opcode.Opcode.TheVariants as op
 use Rattle.wasm_ast.specs.declared.opcode.AtomicOpcode.{AtomicOpcode}
 use Rattle.wasm_ast.specs.declared.opcode.AtomicOpcode.TheVariants as atomic
 use Rattle.wasm_ast.specs.Sequence.{Sequence}
-use Rattle.wasm_ast.specs.SpelledInstr.{opcode_at, atomic_at, AtomicImmediates, SpellsAtomic, Immediates}
+use Rattle.wasm_ast.specs.OpcodeTables.{opcode_at, atomic_at, plan_of, atomic_plan_of, SpellsPlan, SpellsAtomic, SpellsBehind}
 use Rattle.wasm_reading.specs.ReadTypes.{blocktype_at}
 use Rattle.wasm_reading.specs.ReadInstr.{immediates_at, Open, behind_opcode, instrs_at}
 use Rattle.wasm_reading.specs.Filling.{NamesNone}
@@ -17,51 +17,21 @@ use Rattle.wasm_reading.proofs.TypeLaws.{blocktype_exact}
 as_plain : (i j : Instr) → i ≡ j → NamesNone j → NamesNone i
 as_plain i j e h = subst (λ x. NamesNone x) (sym e) h
 
-atomic_plain : (o : AtomicOpcode) (bytes : List ℕ) (i : Instr) → AtomicImmediates o bytes i → NamesNone i
-atomic_plain atomic.Illegal bytes i h = absurd h
-atomic_plain atomic.Fence bytes i h = as_plain i _ h.1 tt
-atomic_plain (atomic.Access of) bytes i h = as_plain i _ h.2 tt
+atomic_plain : (o : AtomicOpcode) (bytes : List ℕ) (i : Instr) → SpellsPlan (atomic_plan_of o) bytes i → NamesNone i
+atomic_plain atomic.Illegal bytes i h = absurd h.1
+atomic_plain o bytes i h = as_plain i _ h.2 tt
 
-spells_atomic_plain : (bytes : List ℕ) (i : Instr) → SpellsAtomic bytes i → NamesNone i
-spells_atomic_plain [] i h = absurd h
-spells_atomic_plain (b ∷ bytes) i h = atomic_plain (atomic_at b) bytes i h
-
-immediates_plain : (o : Opcode) (bytes : List ℕ) (i : Instr) → Immediates o bytes i → NamesNone i
-immediates_plain op.Illegal bytes i h = absurd h
-immediates_plain op.Unreachable bytes i h = as_plain i _ h.1 tt
-immediates_plain op.Nop bytes i h = as_plain i _ h.1 tt
-immediates_plain op.Block bytes i h = absurd h
-immediates_plain op.Loop bytes i h = absurd h
-immediates_plain op.If bytes i h = absurd h
-immediates_plain op.Else bytes i h = absurd h
-immediates_plain op.End bytes i h = absurd h
-immediates_plain op.Br bytes i h = as_plain i _ h.2 tt
-immediates_plain op.BrIf bytes i h = as_plain i _ h.2 tt
-immediates_plain op.BrTable bytes i h = as_plain i _ h.3 tt
-immediates_plain op.Return bytes i h = as_plain i _ h.1 tt
-immediates_plain op.Call bytes i h = as_plain i _ h.2 tt
-immediates_plain op.CallIndirect bytes i h = as_plain i _ h.2 tt
-immediates_plain op.Drop bytes i h = as_plain i _ h.1 tt
-immediates_plain op.Select bytes i h = as_plain i _ h.1 tt
-immediates_plain (op.Variable of) bytes i h = as_plain i _ h.2 tt
-immediates_plain (op.Access of) bytes i h = as_plain i _ h.2 tt
-immediates_plain op.MemorySize bytes i h = as_plain i _ h.1 tt
-immediates_plain op.MemoryGrow bytes i h = as_plain i _ h.1 tt
-immediates_plain op.I32Const bytes i h = as_plain i _ h.2 tt
-immediates_plain op.I64Const bytes i h = as_plain i _ h.2 tt
-immediates_plain (op.Numeric of) bytes i h = as_plain i _ h.1 tt
-immediates_plain op.F32Const bytes i h = as_plain i _ h.1 tt
-immediates_plain op.F64Const bytes i h = as_plain i _ h.1 tt
-immediates_plain op.FloatAccess bytes i h = as_plain i _ h.2 tt
-immediates_plain op.Float bytes i h = as_plain i _ h.1 tt
-immediates_plain op.Atomic bytes i h = spells_atomic_plain bytes i h
+behind_plain : (o : Opcode) (bytes : List ℕ) (i : Instr) → SpellsBehind o bytes i → NamesNone i
+behind_plain op.Atomic [] i h = absurd h
+behind_plain op.Atomic (b ∷ bytes) i h = atomic_plain (atomic_at b) bytes i h
+behind_plain o bytes i h = as_plain i _ h.2 tt
 
 -- what is read behind an opcode names no list, and leaves no more bytes
 pub plain_read : (o : Opcode) (bytes : List ℕ) (i : Instr) (rest : List ℕ) → immediates_at o bytes ≡ Some (i, rest) → NamesNone i × (length rest ≤ length bytes)
 plain_read o bytes i rest h =
     let t = (immediates_exact o).takes bytes i rest h in
     let l = ap length t.2 ∙ length-append t.0 rest in
-    (immediates_plain o t.0 i t.1, omega arith)
+    (behind_plain o t.0 i t.1, omega arith)
 
 pub blocktype_shorter : (bytes : List ℕ) (of : Option ValType) (rest : List ℕ) → blocktype_at bytes ≡ Some (of, rest) → length rest ≤ length bytes
 blocktype_shorter bytes of rest h =

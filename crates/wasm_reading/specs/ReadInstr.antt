@@ -2,14 +2,14 @@
 use Rattle.std.specs.Prelude.{ℕ, zero, suc, List, [], ◌∷◌, length, Option, Some, None}
 use Rattle.wasm_ast.specs.declared.types.ValType.{ValType}
 use Rattle.wasm_ast.specs.declared.instr.Instr.{Instr}
-use Rattle.wasm_ast.specs.declared.instr.Instr.TheVariants as instr
 use Rattle.wasm_ast.specs.declared.instr.MemArg.{MemArg}
 use Rattle.wasm_ast.specs.declared.opcode.Opcode.{Opcode}
 use Rattle.wasm_ast.specs.declared.opcode.Opcode.TheVariants as op
 use Rattle.wasm_ast.specs.declared.opcode.AtomicOpcode.{AtomicOpcode}
 use Rattle.wasm_ast.specs.declared.opcode.AtomicOpcode.TheVariants as atomic
 use Rattle.wasm_ast.specs.Sequence.{Sequence, Empty, Plain, Block, Loop, If}
-use Rattle.wasm_ast.specs.SpelledInstr.{opcode_at, atomic_at}
+use Rattle.wasm_ast.specs.Immediates.{Immediates, Nothing, Index, Labels, IndexAndZero, Argument, Zero, Signed32, Signed64, Raw, Never, Value}
+use Rattle.wasm_ast.specs.OpcodeTables.{opcode_at, atomic_at, Plan, plan_of, atomic_plan_of}
 use Rattle.wasm_reading.specs.Reading.{and_then, mapped, pair_at, next_at, behind_at, span_at, u32_at, i32_at, i64_at, vec_at}
 use Rattle.wasm_reading.specs.ReadTypes.{blocktype_at}
 
@@ -24,44 +24,36 @@ zero_at x bytes = behind_at 0x00 (nothing_at x) bytes
 abbrev pub memarg_at : List ℕ → Option (MemArg × List ℕ)
 memarg_at bytes = mapped (λ a. record { align = a.0; offset = a.1 }) (pair_at u32_at u32_at) bytes
 
+-- immediates
+abbrev pub value_at : (of : Immediates) → List ℕ → Option (Value of × List ℕ)
+value_at Nothing bytes = nothing_at tt bytes
+value_at Index bytes = u32_at bytes
+value_at Labels bytes = pair_at (vec_at u32_at) u32_at bytes
+value_at IndexAndZero bytes = mapped (λ p. p.0) (pair_at {Y = ℕ} u32_at (zero_at 0)) bytes
+value_at Argument bytes = memarg_at bytes
+value_at Zero bytes = zero_at tt bytes
+value_at Signed32 bytes = i32_at bytes
+value_at Signed64 bytes = i64_at bytes
+value_at (Raw size) bytes = span_at size bytes
+value_at Never bytes = None
+
+-- an instruction of that plan
+abbrev pub plan_at : Plan → List ℕ → Option (Instr × List ℕ)
+plan_at p bytes = mapped p.made (value_at p.immediates) bytes
+
+-- what stands behind an opcode behind FE
 abbrev pub atomic_immediates_at : AtomicOpcode → List ℕ → Option (Instr × List ℕ)
 atomic_immediates_at atomic.Illegal bytes = None
-atomic_immediates_at atomic.Fence bytes = zero_at instr.Fence bytes
-atomic_immediates_at (atomic.Access of) bytes = mapped (λ arg. instr.Access of arg) memarg_at bytes
+atomic_immediates_at o bytes = plan_at (atomic_plan_of o) bytes
 
+-- what stands behind FE
 abbrev pub atomic_instr_at : List ℕ → Option (Instr × List ℕ)
 atomic_instr_at bytes = and_then (next_at bytes) (λ b rest. atomic_immediates_at (atomic_at b) rest)
 
 -- what stands behind an opcode
 abbrev pub immediates_at : Opcode → List ℕ → Option (Instr × List ℕ)
-immediates_at op.Illegal bytes = None
-immediates_at op.Unreachable bytes = nothing_at instr.Unreachable bytes
-immediates_at op.Nop bytes = nothing_at instr.Nop bytes
-immediates_at op.Block bytes = None
-immediates_at op.Loop bytes = None
-immediates_at op.If bytes = None
-immediates_at op.Else bytes = None
-immediates_at op.End bytes = None
-immediates_at op.Br bytes = mapped (λ label. instr.Br label) u32_at bytes
-immediates_at op.BrIf bytes = mapped (λ label. instr.BrIf label) u32_at bytes
-immediates_at op.BrTable bytes = mapped (λ targets. instr.BrTable targets) (pair_at (vec_at u32_at) u32_at) bytes
-immediates_at op.Return bytes = nothing_at instr.Return bytes
-immediates_at op.Call bytes = mapped (λ function. instr.Call function) u32_at bytes
-immediates_at op.CallIndirect bytes = mapped (λ of. instr.CallIndirect of.0) (pair_at {Y = ℕ} u32_at (zero_at 0)) bytes
-immediates_at op.Drop bytes = nothing_at instr.Drop bytes
-immediates_at op.Select bytes = nothing_at instr.Select bytes
-immediates_at (op.Variable of) bytes = mapped (λ index. instr.Variable of index) u32_at bytes
-immediates_at (op.Access of) bytes = mapped (λ arg. instr.Access of arg) memarg_at bytes
-immediates_at op.MemorySize bytes = zero_at instr.MemorySize bytes
-immediates_at op.MemoryGrow bytes = zero_at instr.MemoryGrow bytes
-immediates_at op.I32Const bytes = mapped (λ value. instr.I32Const value) i32_at bytes
-immediates_at op.I64Const bytes = mapped (λ value. instr.I64Const value) i64_at bytes
-immediates_at (op.Numeric of) bytes = nothing_at (instr.Numeric of) bytes
-immediates_at op.F32Const bytes = mapped (λ _. instr.Float) (span_at 4) bytes
-immediates_at op.F64Const bytes = mapped (λ _. instr.Float) (span_at 8) bytes
-immediates_at op.FloatAccess bytes = mapped (λ _. instr.Float) memarg_at bytes
-immediates_at op.Float bytes = nothing_at instr.Float bytes
 immediates_at op.Atomic bytes = atomic_instr_at bytes
+immediates_at o bytes = plan_at (plan_of o) bytes
 
 -- a sequence behind another
 abbrev pub append : Sequence → Sequence → Sequence

@@ -1,6 +1,6 @@
 // Instructions without inner instructions: WebAssembly Core 1.0, section 5.4, and the threads proposal.
 ghost use Rattle.std.specs.Prelude.{◌≡◌};
-ghost use Rattle.wasm_ast.specs.SpelledInstr.{opcode_at, atomic_at};
+ghost use Rattle.wasm_ast.specs.OpcodeTables.{opcode_at, atomic_at};
 ghost use Rattle.wasm_reading.specs.Given.{Gives};
 ghost use Rattle.wasm_reading.specs.ReadInstr.{memarg_at, zero_at, atomic_instr_at, immediates_at};
 ghost use Rattle.wasm_reading.specs.Reading.{mapped, span_at};

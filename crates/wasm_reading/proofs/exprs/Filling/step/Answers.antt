@@ -1,7 +1,7 @@
 use Rattle.std.proofs.Common.{◌≡◌, ◌∙◌, sym, refl, subst, Some, None}
 use Rattle.std.proofs.lemmas.Result.{err_from_is_err_and}
 use Rattle.std.specs.Bool.{MatchBool}
-use Rattle.wasm_ast.specs.SpelledInstr.{opcode_at}
+use Rattle.wasm_ast.specs.OpcodeTables.{opcode_at}
 use Rattle.wasm_ast.specs.declared.opcode.Opcode.TheVariants as op
 use Rattle.wasm_reading.specs.declared.exprs.Shape.TheVariants as shape
 use Rattle.wasm_reading.specs.ReadInstr.{InBlock, InLoop, InThen, immediates_at}
