@@ -1,3 +1,7 @@
 pub mod LocalsLemmas
 pub mod NumberingLemmas
 pub mod OpcodeLaws
+pub mod TextOrder
+pub mod BuilderLemmas
+pub mod NumberedOnce
+pub mod WalkLemmas

@@ -2,13 +2,14 @@
 use Rattle.std.proofs.Common.{◌≡◌, ℕ, zero, suc, ◌+◌, ◌<◌, ◌≤◌, List, [], ◌∷◌, length, refl, ap, arith, ◌∙◌, sym}
 use Rattle.wasm_ast.specs.declared.instr.Instr.{Instr}
 use Rattle.wasm_ast.specs.declared.instr.Instr.TheVariants as instr
-use Rattle.wasm_ast.specs.Sequence.{Sequence, Block, Loop, If}
+use Rattle.wasm_ast.specs.declared.instr.BlockKind.TheVariants as kind
+use Rattle.wasm_ast.specs.Sequence.{Sequence, Block, If}
 use Rattle.wasm_ast.specs.Numbering.{list_at, InstrNames, ListNames, in_front, sequence, within, nested}
 
 -- inner sequences count only where they are named
 in_front-agree : (F G : ℕ → Sequence) (i : Instr) (s : Sequence) → InstrNames (λ m. F m ≡ G m) i → in_front F i s ≡ in_front G i s
-in_front-agree F G (instr.Block of body) s h = ap (λ x. Block of x s) h
-in_front-agree F G (instr.Loop of body) s h = ap (λ x. Loop of x s) h
+in_front-agree F G (instr.Block of body) s h = ap (λ x. Block kind.Block of x s) h
+in_front-agree F G (instr.Loop of body) s h = ap (λ x. Block kind.Loop of x s) h
 in_front-agree F G (instr.If of then otherwise) s h = ap (λ x. If of x (F otherwise) s) h.0 ∙ ap (λ x. If of (G then) x s) h.1
 in_front-agree F G _ s h = refl
 
@@ -26,7 +27,7 @@ pub list_names : (P Q : ℕ → Type 0) (is : List Instr) → ((m : ℕ) → P m
 list_names P Q [] f h = tt
 list_names P Q (i ∷ is) f h = (instr_names P Q i f h.0, list_names P Q is f h.1)
 
-past_end : (lists : List (List Instr)) (n : ℕ) → length lists ≤ n → list_at lists n ≡ []
+pub past_end : (lists : List (List Instr)) (n : ℕ) → length lists ≤ n → list_at lists n ≡ []
 past_end [] n h = refl
 past_end (is ∷ lists) zero h = absurd (omega arith)
 past_end (is ∷ lists) (suc n) h = past_end lists n (omega arith)

@@ -4,10 +4,10 @@ use Rattle.std.specs.Prelude.{ℕ, List, [], ◌∷◌, ◌++◌, Option, Some, 
 use Rattle.wasm_ast.specs.declared.types.ValType.{ValType}
 use Rattle.wasm_ast.specs.declared.instr.Instr.{Instr}
 use Rattle.wasm_ast.specs.declared.instr.Instr.TheVariants as instr
-use Rattle.wasm_ast.specs.Sequence.{Sequence, Empty, Plain, Block, Loop, If}
+use Rattle.wasm_ast.specs.Sequence.{Sequence, Empty, Plain, Block, If}
 use Rattle.wasm_ast.specs.SpelledTypes.{valtype_byte}
 use Rattle.wasm_ast.specs.Immediates.{shortest}
-use Rattle.wasm_ast.specs.Opcodes.{encoding}
+use Rattle.wasm_ast.specs.Opcodes.{block_byte, encoding}
 
 -- blocktype (5.3.2)
 abbrev pub block_type_byte : Option ValType → ℕ
@@ -29,8 +29,7 @@ canon_else s written = 0x05 ∷ written
 abbrev pub canon_sequence : Sequence → List ℕ
 canon_sequence Empty = []
 canon_sequence (Plain i rest) = canon_plain i ++ canon_sequence rest
-canon_sequence (Block of body rest) = 0x02 ∷ block_type_byte of ∷ canon_sequence body ++ 0x0B ∷ canon_sequence rest
-canon_sequence (Loop of body rest) = 0x03 ∷ block_type_byte of ∷ canon_sequence body ++ 0x0B ∷ canon_sequence rest
+canon_sequence (Block k of body rest) = block_byte k ∷ block_type_byte of ∷ canon_sequence body ++ 0x0B ∷ canon_sequence rest
 canon_sequence (If of then otherwise rest) =
     0x04 ∷ block_type_byte of ∷ canon_sequence then ++ canon_else otherwise (canon_sequence otherwise) ++ 0x0B ∷ canon_sequence rest
 

@@ -1,5 +1,12 @@
 pub mod Sequence
 pub mod Numbering
+pub mod Position
+pub mod Events
+pub mod Opened
+pub mod Walk
+pub mod Built
+pub mod Wrapping
+pub mod Building
 pub mod Locals
 pub mod Types
 pub mod Operators

@@ -21,6 +21,8 @@ use Rattle.wasm_ast.specs.declared.instr.RmwOp.{RmwOp}
 use Rattle.wasm_ast.specs.declared.instr.RmwOp.TheVariants as rmw
 use Rattle.wasm_ast.specs.declared.instr.Access.{Access}
 use Rattle.wasm_ast.specs.declared.instr.Access.TheVariants.{Load, Store, Notify, Wait, AtomicLoad, AtomicStore, AtomicRmw, AtomicCompareExchange}
+use Rattle.wasm_ast.specs.declared.instr.BlockKind.{BlockKind}
+use Rattle.wasm_ast.specs.declared.instr.BlockKind.TheVariants as kind
 use Rattle.wasm_ast.specs.declared.instr.Instr.{Instr}
 use Rattle.wasm_ast.specs.declared.instr.Instr.TheVariants as instr
 use Rattle.wasm_ast.specs.Immediates.{Immediates, Nothing, Index, Labels, IndexAndZero, Argument, Zero, Signed32, Signed64, Raw, Never, Value}
@@ -137,6 +139,11 @@ access_opcode (AtomicLoad of) = 0xFE ∷ (0x10 + form_place of) ∷ []
 access_opcode (AtomicStore of) = 0xFE ∷ (0x17 + form_place of) ∷ []
 access_opcode (AtomicRmw op of) = 0xFE ∷ (rmw_opcode op + form_place of) ∷ []
 access_opcode (AtomicCompareExchange of) = 0xFE ∷ (0x48 + form_place of) ∷ []
+
+-- the opcode of a block or a loop (5.4.1)
+abbrev pub block_byte : BlockKind → ℕ
+block_byte kind.Block = 0x02
+block_byte kind.Loop = 0x03
 
 -- an opcode, and what stands behind it
 pub record Encoding : Type 0 where

@@ -3,8 +3,10 @@ use Rattle.std.proofs.Common.{◌≡◌, ◌≢◌, ℕ, ap, arith, Option}
 use Rattle.std.specs.Coded.{Coded, coded_option}
 use base.Stored.{Gv, gnil, gnum, gcons}
 use Rattle.wasm_ast.specs.declared.instr.Instr.{Instr}
+use Rattle.wasm_ast.specs.declared.instr.BlockKind.{BlockKind}
 use Rattle.wasm_ast.specs.declared.types.ValType.{ValType}
 use Rattle.wasm_ast.specs.contracts.instr.Instr as instr
+use Rattle.wasm_ast.specs.contracts.instr.BlockKind as blockkind
 use Rattle.wasm_ast.specs.contracts.types.ValType as valtype
 
 -- Nothing; or an instruction that has no inner list, and what comes behind it; or a block, a loop or
@@ -12,8 +14,7 @@ use Rattle.wasm_ast.specs.contracts.types.ValType as valtype
 pub data Sequence : Type 0 where
   Empty : Sequence
   Plain : (i : Instr) (rest : Sequence) → Sequence
-  Block : (of : Option ValType) (body rest : Sequence) → Sequence
-  Loop : (of : Option ValType) (body rest : Sequence) → Sequence
+  Block : (kind : BlockKind) (of : Option ValType) (body rest : Sequence) → Sequence
   If : (of : Option ValType) (then otherwise rest : Sequence) → Sequence
 
 -- How the logic stores a sequence.
@@ -30,15 +31,17 @@ tail (gcons a b) = b
 abbrev of_code : Option ValType → Gv
 of_code of = (coded_option valtype.the_row.coded).code of
 
+abbrev kind_code : BlockKind → Gv
+kind_code k = blockkind.the_row.coded.code k
+
 abbrev of_inj : (x y : Option ValType) → of_code x ≡ of_code y → x ≡ y
 of_inj x y p = (coded_option valtype.the_row.coded).inj x y p
 
 abbrev stored : Sequence → Gv
 stored Empty = gcons (gnum 0) gnil
 stored (Plain i r) = gcons (gnum 1) (gcons (instr.the_row.coded.code i) (stored r))
-stored (Block t a r) = gcons (gnum 2) (gcons (of_code t) (gcons (stored a) (stored r)))
-stored (Loop t a r) = gcons (gnum 3) (gcons (of_code t) (gcons (stored a) (stored r)))
-stored (If t a b r) = gcons (gnum 4) (gcons (of_code t) (gcons (stored a) (gcons (stored b) (stored r))))
+stored (Block k t a r) = gcons (gnum 2) (gcons (kind_code k) (gcons (of_code t) (gcons (stored a) (stored r))))
+stored (If t a b r) = gcons (gnum 3) (gcons (of_code t) (gcons (stored a) (gcons (stored b) (stored r))))
 
 apart : (m n : ℕ) {a b : Gv} → gcons (gnum m) a ≡ gcons (gnum n) b → m ≢ n → ⊥
 apart m n p other = other (cc)
@@ -46,28 +49,19 @@ apart m n p other = other (cc)
 pub stored_inj : (x y : Sequence) → stored x ≡ stored y → x ≡ y
 stored_inj Empty Empty p = λ i. Empty
 stored_inj Empty (Plain _ _) p = absurd (apart 0 1 p (omega arith))
-stored_inj Empty (Block _ _ _) p = absurd (apart 0 2 p (omega arith))
-stored_inj Empty (Loop _ _ _) p = absurd (apart 0 3 p (omega arith))
-stored_inj Empty (If _ _ _ _) p = absurd (apart 0 4 p (omega arith))
+stored_inj Empty (Block _ _ _ _) p = absurd (apart 0 2 p (omega arith))
+stored_inj Empty (If _ _ _ _) p = absurd (apart 0 3 p (omega arith))
 stored_inj (Plain _ _) Empty p = absurd (apart 1 0 p (omega arith))
 stored_inj (Plain a r) (Plain b s) p = λ i. Plain (instr.the_row.coded.inj a b (ap (λ g. head (tail g)) p) i) (stored_inj r s (ap (λ g. tail (tail g)) p) i)
-stored_inj (Plain _ _) (Block _ _ _) p = absurd (apart 1 2 p (omega arith))
-stored_inj (Plain _ _) (Loop _ _ _) p = absurd (apart 1 3 p (omega arith))
-stored_inj (Plain _ _) (If _ _ _ _) p = absurd (apart 1 4 p (omega arith))
-stored_inj (Block _ _ _) Empty p = absurd (apart 2 0 p (omega arith))
-stored_inj (Block _ _ _) (Plain _ _) p = absurd (apart 2 1 p (omega arith))
-stored_inj (Block t a r) (Block u b s) p = λ i. Block (of_inj t u (ap (λ g. head (tail g)) p) i) (stored_inj a b (ap (λ g. head (tail (tail g))) p) i) (stored_inj r s (ap (λ g. tail (tail (tail g))) p) i)
-stored_inj (Block _ _ _) (Loop _ _ _) p = absurd (apart 2 3 p (omega arith))
-stored_inj (Block _ _ _) (If _ _ _ _) p = absurd (apart 2 4 p (omega arith))
-stored_inj (Loop _ _ _) Empty p = absurd (apart 3 0 p (omega arith))
-stored_inj (Loop _ _ _) (Plain _ _) p = absurd (apart 3 1 p (omega arith))
-stored_inj (Loop _ _ _) (Block _ _ _) p = absurd (apart 3 2 p (omega arith))
-stored_inj (Loop t a r) (Loop u b s) p = λ i. Loop (of_inj t u (ap (λ g. head (tail g)) p) i) (stored_inj a b (ap (λ g. head (tail (tail g))) p) i) (stored_inj r s (ap (λ g. tail (tail (tail g))) p) i)
-stored_inj (Loop _ _ _) (If _ _ _ _) p = absurd (apart 3 4 p (omega arith))
-stored_inj (If _ _ _ _) Empty p = absurd (apart 4 0 p (omega arith))
-stored_inj (If _ _ _ _) (Plain _ _) p = absurd (apart 4 1 p (omega arith))
-stored_inj (If _ _ _ _) (Block _ _ _) p = absurd (apart 4 2 p (omega arith))
-stored_inj (If _ _ _ _) (Loop _ _ _) p = absurd (apart 4 3 p (omega arith))
+stored_inj (Plain _ _) (Block _ _ _ _) p = absurd (apart 1 2 p (omega arith))
+stored_inj (Plain _ _) (If _ _ _ _) p = absurd (apart 1 3 p (omega arith))
+stored_inj (Block _ _ _ _) Empty p = absurd (apart 2 0 p (omega arith))
+stored_inj (Block _ _ _ _) (Plain _ _) p = absurd (apart 2 1 p (omega arith))
+stored_inj (Block k t a r) (Block l u b s) p = λ i. Block (blockkind.the_row.coded.inj k l (ap (λ g. head (tail g)) p) i) (of_inj t u (ap (λ g. head (tail (tail g))) p) i) (stored_inj a b (ap (λ g. head (tail (tail (tail g)))) p) i) (stored_inj r s (ap (λ g. tail (tail (tail (tail g)))) p) i)
+stored_inj (Block _ _ _ _) (If _ _ _ _) p = absurd (apart 2 3 p (omega arith))
+stored_inj (If _ _ _ _) Empty p = absurd (apart 3 0 p (omega arith))
+stored_inj (If _ _ _ _) (Plain _ _) p = absurd (apart 3 1 p (omega arith))
+stored_inj (If _ _ _ _) (Block _ _ _ _) p = absurd (apart 3 2 p (omega arith))
 stored_inj (If t a c r) (If u b d s) p = λ i. If (of_inj t u (ap (λ g. head (tail g)) p) i) (stored_inj a b (ap (λ g. head (tail (tail g))) p) i) (stored_inj c d (ap (λ g. head (tail (tail (tail g)))) p) i) (stored_inj r s (ap (λ g. tail (tail (tail (tail g)))) p) i)
 
 abbrev pub sequence_code : Coded Sequence

@@ -2,11 +2,11 @@
 use Rattle.std.specs.Prelude.{◌≡◌, ◌⊎◌, ℕ, List, [], ◌∷◌}
 use Rattle.wasm_ast.specs.declared.instr.Instr.{Instr}
 use Rattle.wasm_ast.specs.declared.instr.Instr.TheVariants as instr
-use Rattle.wasm_ast.specs.Sequence.{Sequence, Empty, Plain, Block, Loop, If}
+use Rattle.wasm_ast.specs.Sequence.{Sequence, Empty, Plain, Block, If}
 use Rattle.wasm_ast.specs.Spelling.{Joined, Behind}
 use Rattle.wasm_ast.specs.SpelledTypes.{SpellsBlockType}
 use Rattle.wasm_ast.specs.Immediates.{Value, Spells}
-use Rattle.wasm_ast.specs.Opcodes.{encoding, float_immediates}
+use Rattle.wasm_ast.specs.Opcodes.{block_byte, encoding, float_immediates}
 
 -- an instruction on floats
 abbrev pub SpellsFloat : List ℕ → Type 0
@@ -23,10 +23,8 @@ SpellsPlain bytes i =
 abbrev pub SpellsSequence : List ℕ → Sequence → Type 0
 SpellsSequence bytes Empty = bytes ≡ []
 SpellsSequence bytes (Plain i rest) = Joined (λ a. SpellsPlain a i) (λ b. SpellsSequence b rest) bytes
-SpellsSequence bytes (Block of body rest) =
-    Behind 0x02 (Joined (λ a. SpellsBlockType a of) (Joined (λ b. SpellsSequence b body) (Behind 0x0B (λ c. SpellsSequence c rest)))) bytes
-SpellsSequence bytes (Loop of body rest) =
-    Behind 0x03 (Joined (λ a. SpellsBlockType a of) (Joined (λ b. SpellsSequence b body) (Behind 0x0B (λ c. SpellsSequence c rest)))) bytes
+SpellsSequence bytes (Block k of body rest) =
+    Behind (block_byte k) (Joined (λ a. SpellsBlockType a of) (Joined (λ b. SpellsSequence b body) (Behind 0x0B (λ c. SpellsSequence c rest)))) bytes
 SpellsSequence bytes (If of then otherwise rest) =
     Behind 0x04 (Joined (λ a. SpellsBlockType a of) (λ x.
     (Joined (λ b. SpellsSequence b then) (Behind 0x0B (λ c. SpellsSequence c rest)) x × (otherwise ≡ Empty))

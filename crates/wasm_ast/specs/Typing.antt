@@ -11,9 +11,11 @@ use Rattle.wasm_ast.specs.declared.instr.VariableOp.{VariableOp}
 use Rattle.wasm_ast.specs.declared.instr.VariableOp.TheVariants.{LocalGet, LocalSet, LocalTee, GlobalGet, GlobalSet}
 use Rattle.wasm_ast.specs.declared.instr.Instr.{Instr}
 use Rattle.wasm_ast.specs.declared.instr.Instr.TheVariants as instr
+use Rattle.wasm_ast.specs.declared.instr.BlockKind.{BlockKind}
+use Rattle.wasm_ast.specs.declared.instr.BlockKind.TheVariants as kind
 use Rattle.wasm_ast.specs.Types.{same_type}
 use Rattle.wasm_ast.specs.Operators.{numeric_operands, numeric_result, access_exponent, access_is_atomic, access_operands, access_results}
-use Rattle.wasm_ast.specs.Sequence.{Sequence, Empty, Plain, Block, Loop, If}
+use Rattle.wasm_ast.specs.Sequence.{Sequence, Empty, Plain, Block, If}
 
 -- What instructions may name (3.1.1): the types of the module; of each function the index of its
 -- type; how many tables and memories there are; of each global its type and whether it can be set;
@@ -192,15 +194,18 @@ abbrev pub leaves : Option ValType → Option Operands → Bool
 leaves of None = false
 leaves of (Some s) = option_is_empty (taken (option_to_list of) s)
 
+-- what a branch to a block or a loop takes (3.3.5)
+abbrev pub label_of : BlockKind → Option ValType → Option ValType
+label_of kind.Block of = of
+label_of kind.Loop of = None
+
 -- The operands behind a sequence of instructions (3.3.6), or none where one doesn't fit. The inner
 -- sequence of a block begins without operands and leaves exactly the block's type (3.3.5).
 abbrev pub typed : Context → Labels → Sequence → Operands → Option Operands
 typed c labels Empty s = Some s
 typed c labels (Plain i rest) s = option_and_then (typed c labels rest) (after c labels i s)
-typed c labels (Block of body rest) s =
-    if leaves of (typed c (of ∷ labels) body no_operands) then typed c labels rest (given (option_to_list of) s) else None
-typed c labels (Loop of body rest) s =
-    if leaves of (typed c (None ∷ labels) body no_operands) then typed c labels rest (given (option_to_list of) s) else None
+typed c labels (Block k of body rest) s =
+    if leaves of (typed c (label_of k of ∷ labels) body no_operands) then typed c labels rest (given (option_to_list of) s) else None
 typed c labels (If of first second rest) s =
     option_and_then
     (λ a. if leaves of (typed c (of ∷ labels) first no_operands) && leaves of (typed c (of ∷ labels) second no_operands) then typed c labels rest (given (option_to_list of) a) else None)

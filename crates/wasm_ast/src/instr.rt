@@ -127,6 +127,20 @@ pub enum LoadOp {
     I64From32U = 0x35,
 }
 
+/// A block or a loop. They differ in what a branch to their label goes to and takes (2.4.5).
+#[derive(Clone, Copy)]
+pub enum BlockKind {
+    Block,
+    Loop,
+}
+
+/// What begins with instructions inside it (2.4.5).
+#[derive(Clone, Copy)]
+pub enum Construct {
+    Block(BlockKind),
+    If,
+}
+
 /// The operator of an atomic read, modify and write, by the byte behind FE of that of a whole i32.
 #[derive(Clone, Copy)]
 pub enum RmwOp {

@@ -3,18 +3,22 @@
 #![tactic(auto)]
 
 mod body;
+mod builder;
 mod instr;
 mod items;
 mod locals;
 mod module;
 mod opcode;
 mod operators;
+mod position;
 mod types;
+mod walk;
 
 pub use body::Body;
+pub use builder::BodyBuilder;
 pub use instr::{
-    Access, BinaryOp, CompareOp, ConvertOp, Form, Instr, LoadOp, MemArg, NumericOp, RmwOp, Targets,
-    UnaryOp, VariableOp,
+    Access, BinaryOp, BlockKind, CompareOp, Construct, ConvertOp, Form, Instr, LoadOp, MemArg,
+    NumericOp, RmwOp, Targets, UnaryOp, VariableOp,
 };
 pub use items::{Copied, Items};
 pub use locals::{LocalGroup, Locals};
@@ -22,4 +26,6 @@ pub use module::{
     Code, Element, Export, ExportKind, GlobalVar, Import, ImportKind, Module, Segment,
 };
 pub use opcode::{ATOMIC_OPCODES, AtomicOpcode, OPCODES, Opcode, opcodes_are_encodings};
+pub use position::Position;
 pub use types::{FuncType, IntType, Limits, ValType};
+pub use walk::{Event, Walk};

@@ -1,192 +1,126 @@
 -- What is spelled as an expression is read so.
-use Rattle.std.proofs.Common.{◌≡◌, ◌⊎◌, inl, inr, ℕ, zero, suc, ◌≤◌, List, [], ◌∷◌, ◌++◌, length, Option, Some, refl, sym, ◌∙◌, ap, subst, arith, append_assoc, length-append}
+use Rattle.std.proofs.Common.{◌≡◌, ◌⊎◌, inl, inr, ℕ, List, [], ◌∷◌, ◌++◌, Option, Some, refl, sym, ◌∙◌, ap, subst, append_assoc, cond}
 use Rattle.wasm_ast.specs.declared.types.ValType.{ValType}
 use Rattle.wasm_ast.specs.declared.instr.Instr.{Instr}
+use Rattle.wasm_ast.specs.declared.instr.Construct.{Construct}
+use Rattle.wasm_ast.specs.declared.instr.Construct.TheVariants as construct
 use Rattle.wasm_ast.specs.declared.opcode.Opcode.{Opcode}
 use Rattle.wasm_ast.specs.declared.opcode.Opcode.TheVariants as op
-use Rattle.wasm_ast.specs.Sequence.{Sequence, Empty, Plain, Block, Loop, If}
+use Rattle.wasm_ast.specs.Sequence.{Sequence, Empty, Plain, Block, If}
+use Rattle.wasm_ast.specs.Built.{Open, Inside, Else, Built, append, nothing_built, with_plain, with_open, closed}
 use Rattle.wasm_ast.specs.Spelling.{Joined, Behind}
 use Rattle.wasm_ast.specs.SpelledTypes.{SpellsBlockType}
+use Rattle.wasm_ast.specs.Opcodes.{block_byte}
 use Rattle.wasm_ast.specs.SpelledInstr.{SpellsPlain, SpellsSequence, SpellsExpr}
-use Rattle.wasm_ast.specs.OpcodeTables.{opcode_at, control, SpellsBehind}
-use Rattle.wasm_ast.proofs.OpcodeLaws.{spelled_is_behind, plain_begins, control_is}
+use Rattle.wasm_ast.specs.OpcodeTables.{opcode_at, SpellsBehind}
+use Rattle.wasm_ast.proofs.OpcodeLaws.{spelled_is_behind, plain_begins}
+use Rattle.wasm_reading.specs.declared.exprs.Shape.TheVariants as shape
+use Rattle.wasm_reading.specs.declared.exprs.Step.TheVariants.{Going, Whole}
 use Rattle.wasm_reading.specs.Reading.{and_then, IsExact}
-use Rattle.wasm_reading.specs.ReadTypes.{blocktype_at}
-use Rattle.wasm_reading.specs.ReadInstr.{append, Open, InBlock, InLoop, InThen, InElse, Going, end_at, behind_opcode, instrs_at, expr_at}
+use Rattle.wasm_reading.specs.ReadExpr.{shape_of, behind_shape, step_at, goes_on, rest_at, expr_at}
 use Rattle.wasm_reading.proofs.TypeLaws.{blocktype_exact}
 use Rattle.wasm_reading.proofs.InstrLaws.{immediates_exact}
 use Rattle.wasm_reading.proofs.Sequences.{append-empty, append-append}
+use Rattle.wasm_reading.proofs.Steps.{step_to}
+use Rattle.wasm_reading.proofs.Shapes.{construct_byte, shape_end, shape_else, shape_begin}
 use Rattle.wasm_reading.proofs.ExprTakes.{expr_takes}
 
--- reading from there comes to reading from here
-abbrev Ran : ℕ → List Open → Sequence → List ℕ → List Open → Sequence → List ℕ → Type 0
-Ran n opens before bytes opens' before' bytes' = (m : ℕ) × (length bytes' ≤ m) × (instrs_at n opens before bytes ≡ instrs_at m opens' before' bytes')
-
-then_ran : (n : ℕ) (a c e : List Open) (b d f : Sequence) (x y z : List ℕ) → Ran n a b x c d y → ((m : ℕ) → length y ≤ m → Ran m c d y e f z) → Ran n a b x e f z
-then_ran n a c e b d f x y z r k = let q = k r.0 r.1 in (q.0, q.1, r.2 ∙ q.2)
-
--- the same bytes
-ran_at : (n : ℕ) (a c : List Open) (b d : Sequence) (x x' y : List ℕ) → x ≡ x' → Ran n a b x' c d y → Ran n a b x c d y
-ran_at n a c b d x x' y e r = (r.0, r.1, ap (λ w. instrs_at n a b w) e ∙ r.2)
-
--- the first byte
-begun : (n : ℕ) (b : ℕ) (bytes : List ℕ) (opens : List Open) (before : Sequence) → length (b ∷ bytes) ≤ n →
-    (m : ℕ) × (length bytes ≤ m) × (instrs_at n opens before (b ∷ bytes) ≡ behind_opcode (instrs_at m) (opcode_at b) opens before bytes)
-unfolding instrs_at
-begun zero b bytes opens before h = absurd (omega arith)
-begun (suc n) b bytes opens before h = (n, omega arith, refl)
-
 -- an opening byte and a block type
-open_ran : (o : Opcode) (frame : Option ValType → Open) (opens : List Open) (before : Sequence) →
-    ((go : Going) (bytes : List ℕ) → behind_opcode go o opens before bytes ≡ and_then (blocktype_at bytes) (λ of rest. go (frame of ∷ opens) Empty rest)) →
-    (n c : ℕ) (q : List ℕ) (of : Option ValType) (bytes : List ℕ) → opcode_at c ≡ o → SpellsBlockType q of → length (c ∷ (q ++ bytes)) ≤ n →
-    Ran n opens before (c ∷ (q ++ bytes)) (frame of ∷ opens) Empty bytes
-open_ran o frame opens before does n c q of bytes e s h =
-    let m = begun n c (q ++ bytes) opens before h in
-    let l : length bytes ≤ m.0 = omega (arith, m.1, length-append q bytes) in (
-      m.0,
-      l,
-      m.2
-          ∙ ap (λ p. behind_opcode (instrs_at m.0) p opens before (q ++ bytes)) e
-          ∙ does (instrs_at m.0) (q ++ bytes)
-          ∙ ap (λ x. and_then x (λ of rest. instrs_at m.0 (frame of ∷ opens) Empty rest)) (blocktype_exact.again q bytes of s),
-    )
+begin_read : (c : Construct) (v : Built) (b : ℕ) (q more : List ℕ) (of : Option ValType) → b ≡ construct_byte c → SpellsBlockType q of → rest_at v (b ∷ (q ++ more)) ≡ rest_at (with_open c of v) more
+begin_read c v b q more of o s =
+    step_to v (b ∷ (q ++ more)) (Going (with_open c of v)) more
+    (ap (λ x. behind_shape x (opcode_at b) v (q ++ more)) (shape_begin b c o) ∙ ap (λ x. and_then x (λ of rest. Some (Going (with_open c of v), rest))) (blocktype_exact.again q more of s))
 
--- an end
-end_ran : (frame : Open) (opens : List Open) (done next : Sequence) →
-    ((go : Going) (bytes : List ℕ) → end_at go (frame ∷ opens) done bytes ≡ go opens next bytes) →
-    (n e : ℕ) (bytes : List ℕ) → e ≡ 0x0B → length (e ∷ bytes) ≤ n → Ran n (frame ∷ opens) done (e ∷ bytes) opens next bytes
-end_ran frame opens done next does n e bytes o h =
-    let m = begun n e bytes (frame ∷ opens) done h in
-    (m.0, m.1, m.2 ∙ ap (λ p. behind_opcode (instrs_at m.0) p (frame ∷ opens) done bytes) (control_is e op.End 0x0B refl o) ∙ does (instrs_at m.0) bytes)
+-- the end of a construct
+end_read : (o : Open) (os : List Open) (s : Sequence) (e : ℕ) (more : List ℕ) → e ≡ 0x0B → rest_at (record { opens = o ∷ os; before = s }) (e ∷ more) ≡ rest_at (record { opens = os; before = closed o s }) more
+end_read o os s e more h =
+    let v : Built = record { opens = o ∷ os; before = s } in
+    step_to v (e ∷ more) (Going (record { opens = os; before = closed o s })) more (ap (λ x. behind_shape x (opcode_at e) v more) (shape_end e h))
 
--- an else
-else_ran : (of : Option ValType) (under : Sequence) (opens : List Open) (done : Sequence) (n e : ℕ) (bytes : List ℕ) → e ≡ 0x05 → length (e ∷ bytes) ≤ n →
-    Ran n (InThen of under ∷ opens) done (e ∷ bytes) (InElse of done under ∷ opens) Empty bytes
-else_ran of under opens done n e bytes o h =
-    let m = begun n e bytes (InThen of under ∷ opens) done h in
-    (m.0, m.1, m.2 ∙ ap (λ p. behind_opcode (instrs_at m.0) p (InThen of under ∷ opens) done bytes) (control_is e op.Else 0x05 refl o))
+-- the end of the first arm of an if
+else_read : (of : Option ValType) (under : Sequence) (os : List Open) (s : Sequence) (e : ℕ) (more : List ℕ) → e ≡ 0x05 →
+    rest_at (record { opens = Inside construct.If of under ∷ os; before = s }) (e ∷ more) ≡ rest_at (record { opens = Else of s under ∷ os; before = Empty }) more
+else_read of under os s e more h =
+    let v : Built = record { opens = Inside construct.If of under ∷ os; before = s } in
+    step_to v (e ∷ more) (Going (record { opens = Else of s under ∷ os; before = Empty })) more (ap (λ x. behind_shape x (opcode_at e) v more) (shape_else e h))
 
-step_plain : (o : Opcode) (imm more : List ℕ) (i : Instr) (go : Going) (opens : List Open) (before : Sequence) → SpellsBehind o imm i →
-    behind_opcode go o opens before (imm ++ more) ≡ go opens (append before (Plain i Empty)) more
-step_plain op.End imm more i go opens before h = absurd h.1
-step_plain op.Else imm more i go opens before h = absurd h.1
-step_plain op.Block imm more i go opens before h = absurd h.1
-step_plain op.Loop imm more i go opens before h = absurd h.1
-step_plain op.If imm more i go opens before h = absurd h.1
-step_plain o imm more i go opens before h =
-    ap (λ x. and_then x (λ i rest. go opens (append before (Plain i Empty)) rest)) ((immediates_exact o).again imm more i h)
+-- an instruction without inner instructions
+behind_plain : (o : Opcode) (v : Built) (imm more : List ℕ) (i : Instr) → SpellsBehind o imm i → behind_shape (shape_of o) o v (imm ++ more) ≡ Some (Going (with_plain i v), more)
+behind_plain op.End v imm more i h = absurd h.1
+behind_plain op.Else v imm more i h = absurd h.1
+behind_plain op.Block v imm more i h = absurd h.1
+behind_plain op.Loop v imm more i h = absurd h.1
+behind_plain op.If v imm more i h = absurd h.1
+behind_plain o v imm more i h = ap (λ x. and_then x (λ i rest. Some (Going (with_plain i v), rest))) ((immediates_exact o).again imm more i h)
 
-plain_ran : (i : Instr) (p more : List ℕ) (n : ℕ) (opens : List Open) (before : Sequence) → SpellsPlain p i → length (p ++ more) ≤ n →
-    Ran n opens before (p ++ more) opens (append before (Plain i Empty)) more
-plain_ran i [] more n opens before s h = absurd (plain_begins i s)
-plain_ran i (b ∷ imm) more n opens before s h =
-    let m = begun n b (imm ++ more) opens before h in
-    let l : length more ≤ m.0 = omega (arith, m.1, length-append imm more) in
-    (m.0, l, m.2 ∙ step_plain (opcode_at b) imm more i (instrs_at m.0) opens before (spelled_is_behind b imm i s))
+plain_read : (i : Instr) (p more : List ℕ) (v : Built) → SpellsPlain p i → rest_at v (p ++ more) ≡ rest_at (with_plain i v) more
+plain_read i [] more v s = absurd (plain_begins i s)
+plain_read i (b ∷ imm) more v s = step_to v (b ∷ (imm ++ more)) (Going (with_plain i v)) more (behind_plain (opcode_at b) v imm more i (spelled_is_behind b imm i s))
 
-split_more : (a f b more : List ℕ) → a ≡ f ++ b → a ++ more ≡ f ++ (b ++ more)
-split_more a f b more p = ap (λ x. x ++ more) p ∙ append_assoc f b more
+-- a sequence behind what was read
+abbrev behind : Built → Sequence → Built
+behind v t = record { opens = v.opens; before = append v.before t }
 
--- what the recursion gives of a sequence
-abbrev Runs : Sequence → Type 0
-Runs t = (n : ℕ) (opens : List Open) (before : Sequence) (a more : List ℕ) → SpellsSequence a t → length (a ++ more) ≤ n → Ran n opens before (a ++ more) opens (append before t) more
+abbrev IsRead : Sequence → Type 0
+IsRead t = (v : Built) (a more : List ℕ) → SpellsSequence a t → rest_at v (a ++ more) ≡ rest_at (behind v t) more
 
--- a sequence, the end behind it, and the rest of the sequence round it
-closes : (frame : Open) (opens : List Open) (before one : Sequence) (t r : Sequence) → Runs t → Runs r →
-    ((go : Going) (bytes : List ℕ) → end_at go (frame ∷ opens) t bytes ≡ go opens (append before one) bytes) →
-    (next : Sequence) → append one r ≡ next →
-    (n : ℕ) (front back more : List ℕ) → SpellsSequence front t → Behind 0x0B (λ c. SpellsSequence c r) back → length (front ++ (back ++ more)) ≤ n →
-    Ran n (frame ∷ opens) Empty (front ++ (back ++ more)) opens (append before next) more
-closes frame opens before one t r runs rest does next is n front [] more st h l = absurd h
-closes frame opens before one t r runs rest does next is n front (e ∷ back) more st h l =
-    then_ran n (frame ∷ opens) (frame ∷ opens) opens Empty t (append before next) (front ++ (e ∷ (back ++ more))) (e ∷ (back ++ more)) more
-    (runs n (frame ∷ opens) Empty front (e ∷ (back ++ more)) st l)
-    (λ m k. then_ran m (frame ∷ opens) opens opens t (append before one) (append before next) (e ∷ (back ++ more)) (back ++ more) more
-    (end_ran frame opens t (append before one) does m e (back ++ more) h.0 k)
-    (λ o j. subst (λ z. Ran o opens (append before one) (back ++ more) opens z more) (append-append before one r ∙ ap (λ z. append before z) is)
-    (rest o opens (append before one) back more h.1 j)))
+parts_read : (v : Built) (a front back more : List ℕ) → a ≡ front ++ back → rest_at v (a ++ more) ≡ rest_at v (front ++ (back ++ more))
+parts_read v a front back more p = ap (rest_at v) (ap (λ x. x ++ more) p ∙ append_assoc front back more)
 
-else_closes : (of : Option ValType) (opens : List Open) (before : Sequence) (t u r : Sequence) → Runs t → Runs u → Runs r →
-    (n : ℕ) (front back more : List ℕ) → SpellsSequence front t → Behind 0x05 (Joined (λ c. SpellsSequence c u) (Behind 0x0B (λ d. SpellsSequence d r))) back → length (front ++ (back ++ more)) ≤ n →
-    Ran n (InThen of before ∷ opens) Empty (front ++ (back ++ more)) opens (append before (If of t u r)) more
-else_closes of opens before t u r first second rest n front [] more st h l = absurd h
-else_closes of opens before t u r first second rest n front (e ∷ back) more st h l =
-    then_ran n (InThen of before ∷ opens) (InThen of before ∷ opens) opens Empty t (append before (If of t u r)) (front ++ (e ∷ (back ++ more))) (e ∷ (back ++ more)) more
-    (first n (InThen of before ∷ opens) Empty front (e ∷ (back ++ more)) st l)
-    (λ m k. then_ran m (InThen of before ∷ opens) (InElse of t before ∷ opens) opens t Empty (append before (If of t u r)) (e ∷ (back ++ more)) (back ++ more) more
-    (else_ran of before opens t m e (back ++ more) h.0 k)
-    (λ o j.
-    let shape = split_more back h.1.front h.1.back more h.1.parts in
-    ran_at o (InElse of t before ∷ opens) opens Empty (append before (If of t u r)) (back ++ more) (h.1.front ++ (h.1.back ++ more)) more shape
-    (closes (InElse of t before) opens before (If of t u Empty) u r second rest (λ go bytes. refl) (If of t u r) refl o h.1.front h.1.back more h.1.first h.1.second (subst (λ b. length b ≤ o) shape j))))
+-- the instructions of a construct, its end, and the rest of the sequence round it
+close_read : (o : Open) (os : List Open) (before part t r : Sequence) → IsRead t → IsRead r → closed o t ≡ append before part → (a more : List ℕ) → Joined (λ b. SpellsSequence b t) (Behind 0x0B (λ c. SpellsSequence c r)) a →
+    rest_at (record { opens = o ∷ os; before = Empty }) (a ++ more) ≡ rest_at (record { opens = os; before = append before (append part r) }) more
+close_read o os before part t r read_t read_r is a more j = parts_read _ a j.front j.back more j.parts ∙ read_t _ j.front (j.back ++ more) j.first ∙ ends j.back j.second where
+  ends : (back : List ℕ) → Behind 0x0B (λ c. SpellsSequence c r) back → rest_at (record { opens = o ∷ os; before = t }) (back ++ more) ≡ rest_at (record { opens = os; before = append before (append part r) }) more
+  ends [] h = absurd h
+  ends (e ∷ back) h =
+      end_read o os t e (back ++ more) h.0 ∙ ap (λ s. rest_at (record { opens = os; before = s }) (back ++ more)) is
+      ∙ read_r (record { opens = os; before = append before part }) back more h.1 ∙ ap (λ s. rest_at (record { opens = os; before = s }) more) (append-append before part r)
 
--- an opening byte, a block type and what stands behind
-opened_ran : (o : Opcode) (d : ℕ) → control o ≡ Some d → (frame : Option ValType → Open) (opens : List Open) (before next : Sequence) (of : Option ValType) (P : List ℕ → Type 0) →
-    ((go : Going) (bytes : List ℕ) → behind_opcode go o opens before bytes ≡ and_then (blocktype_at bytes) (λ of rest. go (frame of ∷ opens) Empty rest)) →
-    (n : ℕ) (a more : List ℕ) → Behind d (Joined (λ q. SpellsBlockType q of) P) a → length (a ++ more) ≤ n →
-    ((m : ℕ) (x : List ℕ) → P x → length (x ++ more) ≤ m → Ran m (frame of ∷ opens) Empty (x ++ more) opens next more) → Ran n opens before (a ++ more) opens next more
-opened_ran o d is frame opens before next of P does n [] more h l k = absurd h
-opened_ran o d is frame opens before next of P does n (c ∷ a) more h l k =
-    let shape : c ∷ (a ++ more) ≡ c ∷ (h.1.front ++ (h.1.back ++ more)) = ap (λ b. c ∷ b) (split_more a h.1.front h.1.back more h.1.parts) in
-    ran_at n opens opens before next (c ∷ (a ++ more)) (c ∷ (h.1.front ++ (h.1.back ++ more))) more shape
-    (then_ran n opens (frame of ∷ opens) opens before Empty next (c ∷ (h.1.front ++ (h.1.back ++ more))) (h.1.back ++ more) more
-    (open_ran o frame opens before does n c h.1.front of (h.1.back ++ more) (control_is c o d is h.0) h.1.first (subst (λ b. length b ≤ n) shape l))
-    (λ m j. k m h.1.back h.1.second j))
+-- what opens a construct, and its inside
+open_read : (c : Construct) (d : ℕ) (v w : Built) (of : Option ValType) (P : List ℕ → Type 0) → d ≡ construct_byte c → (a more : List ℕ) → Behind d (Joined (λ q. SpellsBlockType q of) P) a →
+    ((x : List ℕ) → P x → rest_at (with_open c of v) (x ++ more) ≡ rest_at w more) → rest_at v (a ++ more) ≡ rest_at w more
+open_read c d v w of P is [] more h inside = absurd h
+open_read c d v w of P is (b ∷ a) more h inside =
+    let j = h.1 in
+    parts_read v (b ∷ a) (b ∷ j.front) j.back more (ap (λ x. b ∷ x) j.parts) ∙ begin_read c v b j.front (j.back ++ more) of (h.0 ∙ is) j.first ∙ inside j.back j.second
 
-sequence_runs : (t : Sequence) → Runs t
-sequence_runs Empty n opens before a more s h =
-    let l : length more ≤ n = omega (arith, h, length-append a more) in
-    (n, l, ap (λ b. instrs_at n opens before (b ++ more)) s ∙ ap (λ z. instrs_at n opens z more) (sym (append-empty before)))
-sequence_runs (Plain i r) n opens before a more s h =
-    let shape = split_more a s.front s.back more s.parts in
-    ran_at n opens opens before (append before (Plain i r)) (a ++ more) (s.front ++ (s.back ++ more)) more shape
-    (then_ran n opens opens opens before (append before (Plain i Empty)) (append before (Plain i r)) (s.front ++ (s.back ++ more)) (s.back ++ more) more
-    (plain_ran i s.front (s.back ++ more) n opens before s.first (subst (λ b. length b ≤ n) shape h))
-    (λ m k. subst (λ z. Ran m opens (append before (Plain i Empty)) (s.back ++ more) opens z more) (append-append before (Plain i Empty) r)
-    (sequence_runs r m opens (append before (Plain i Empty)) s.back more s.second k)))
-sequence_runs (Block of body r) n opens before a more s h =
-    opened_ran op.Block 0x02 refl (λ of. InBlock of before) opens before (append before (Block of body r)) of (Joined (λ b. SpellsSequence b body) (Behind 0x0B (λ c. SpellsSequence c r))) (λ go bytes. refl) n a more s h
-    (λ m x j l.
-    let shape = split_more x j.front j.back more j.parts in
-    ran_at m (InBlock of before ∷ opens) opens Empty (append before (Block of body r)) (x ++ more) (j.front ++ (j.back ++ more)) more shape
-    (closes (InBlock of before) opens before (Block of body Empty) body r (sequence_runs body) (sequence_runs r) (λ go bytes. refl) (Block of body r) refl m j.front j.back more j.first j.second (subst (λ b. length b ≤ m) shape l)))
-sequence_runs (Loop of body r) n opens before a more s h =
-    opened_ran op.Loop 0x03 refl (λ of. InLoop of before) opens before (append before (Loop of body r)) of (Joined (λ b. SpellsSequence b body) (Behind 0x0B (λ c. SpellsSequence c r))) (λ go bytes. refl) n a more s h
-    (λ m x j l.
-    let shape = split_more x j.front j.back more j.parts in
-    ran_at m (InLoop of before ∷ opens) opens Empty (append before (Loop of body r)) (x ++ more) (j.front ++ (j.back ++ more)) more shape
-    (closes (InLoop of before) opens before (Loop of body Empty) body r (sequence_runs body) (sequence_runs r) (λ go bytes. refl) (Loop of body r) refl m j.front j.back more j.first j.second (subst (λ b. length b ≤ m) shape l)))
-sequence_runs (If of one two r) n opens before a more s h =
-    opened_ran op.If 0x04 refl (λ of. InThen of before) opens before (append before (If of one two r)) of
-    (λ x. (Joined (λ b. SpellsSequence b one) (Behind 0x0B (λ c. SpellsSequence c r)) x × (two ≡ Empty))
-    ⊎ Joined (λ b. SpellsSequence b one) (Behind 0x05 (Joined (λ c. SpellsSequence c two) (Behind 0x0B (λ d. SpellsSequence d r)))) x)
-    (λ go bytes. refl) n a more s h
-    (λ m x p l. elim p [
-      | inl w ↦
-          let shape = split_more x w.0.front w.0.back more w.0.parts in
-          subst (λ z. Ran m (InThen of before ∷ opens) Empty (x ++ more) opens (append before (If of one z r)) more) (sym w.1)
-          (ran_at m (InThen of before ∷ opens) opens Empty (append before (If of one Empty r)) (x ++ more) (w.0.front ++ (w.0.back ++ more)) more shape
-          (closes (InThen of before) opens before (If of one Empty Empty) one r (sequence_runs one) (sequence_runs r) (λ go bytes. refl) (If of one Empty r) refl m w.0.front w.0.back more w.0.first w.0.second (subst (λ b. length b ≤ m) shape l)))
-      | inr w ↦
-          let shape = split_more x w.front w.back more w.parts in
-          ran_at m (InThen of before ∷ opens) opens Empty (append before (If of one two r)) (x ++ more) (w.front ++ (w.back ++ more)) more shape
-          (else_closes of opens before one two r (sequence_runs one) (sequence_runs two) (sequence_runs r) m w.front w.back more w.first w.second (subst (λ b. length b ≤ m) shape l))
-    ])
+-- the arms of an if, behind its type
+module _ (v : Built) (of : Option ValType) (one two r : Sequence) (read_one : IsRead one) (read_two : IsRead two) (read_r : IsRead r) (more : List ℕ) where
+  second_read : (back : List ℕ) → Behind 0x05 (Joined (λ c. SpellsSequence c two) (Behind 0x0B (λ d. SpellsSequence d r))) back →
+      rest_at (record { opens = Inside construct.If of v.before ∷ v.opens; before = one }) (back ++ more) ≡ rest_at (behind v (If of one two r)) more
+  second_read [] h = absurd h
+  second_read (e ∷ back) h =
+      else_read of v.before v.opens one e (back ++ more) h.0 ∙ close_read (Else of one v.before) v.opens v.before (If of one two Empty) two r read_two read_r refl back more h.1
 
-last_end : (s : Sequence) (n : ℕ) (back rest : List ℕ) → Behind 0x0B (λ c. c ≡ []) back → length (back ++ rest) ≤ n → instrs_at n [] s (back ++ rest) ≡ Some (s, rest)
-last_end s n [] rest h l = absurd h
-last_end s n (e ∷ back) rest h l =
-    let m = begun n e (back ++ rest) [] s l in
-    m.2 ∙ ap (λ p. behind_opcode (instrs_at m.0) p [] s (back ++ rest)) (control_is e op.End 0x0B refl h.0) ∙ ap (λ b. Some (s, b ++ rest)) h.1
+  arms_read : (x : List ℕ) → (Joined (λ b. SpellsSequence b one) (Behind 0x0B (λ c. SpellsSequence c r)) x × (two ≡ Empty))
+      ⊎ Joined (λ b. SpellsSequence b one) (Behind 0x05 (Joined (λ c. SpellsSequence c two) (Behind 0x0B (λ d. SpellsSequence d r)))) x → rest_at (with_open construct.If of v) (x ++ more) ≡ rest_at (behind v (If of one two r)) more
+  arms_read x (inl w) =
+      close_read (Inside construct.If of v.before) v.opens v.before (If of one Empty Empty) one r read_one read_r refl x more w.0 ∙ ap (λ z. rest_at (behind v (If of one z r)) more) (sym w.1)
+  arms_read x (inr w) = parts_read (with_open construct.If of v) x w.front w.back more w.parts ∙ read_one (with_open construct.If of v) w.front (w.back ++ more) w.first ∙ second_read w.back w.second
+
+sequence_read : (t : Sequence) → IsRead t
+sequence_read Empty v a more s = ap (λ b. rest_at v (b ++ more)) s ∙ ap (λ z. rest_at (record { opens = v.opens; before = z }) more) (sym (append-empty v.before))
+sequence_read (Plain i r) v a more s =
+    parts_read v a s.front s.back more s.parts ∙ plain_read i s.front (s.back ++ more) v s.first ∙ sequence_read r (with_plain i v) s.back more s.second
+    ∙ ap (λ z. rest_at (record { opens = v.opens; before = z }) more) (append-append v.before (Plain i Empty) r)
+sequence_read (Block k of body r) v a more s =
+    open_read (construct.Block k) (block_byte k) v (behind v (Block k of body r)) of (Joined (λ b. SpellsSequence b body) (Behind 0x0B (λ c. SpellsSequence c r))) refl a more s
+    (λ x j. close_read (Inside (construct.Block k) of v.before) v.opens v.before (Block k of body Empty) body r (sequence_read body) (sequence_read r) refl x more j)
+sequence_read (If of one two r) v a more s =
+    open_read construct.If 0x04 v (behind v (If of one two r)) of
+    (λ x. (Joined (λ b. SpellsSequence b one) (Behind 0x0B (λ c. SpellsSequence c r)) x × (two ≡ Empty)) ⊎ Joined (λ b. SpellsSequence b one) (Behind 0x05 (Joined (λ c. SpellsSequence c two) (Behind 0x0B (λ d. SpellsSequence d r)))) x)
+    refl a more s (arms_read v of one two r (sequence_read one) (sequence_read two) (sequence_read r) more)
+
+last_read : (s : Sequence) (back rest : List ℕ) → Behind 0x0B (λ c. c ≡ []) back → rest_at (record { opens = []; before = s }) (back ++ rest) ≡ Some (s, rest)
+last_read s [] rest h = absurd h
+last_read s (e ∷ back) rest h =
+    let v : Built = record { opens = []; before = s } in
+    step_to v (e ∷ (back ++ rest)) (Whole s) (back ++ rest) (ap (λ x. behind_shape x (opcode_at e) v (back ++ rest)) (shape_end e h.0)) ∙ ap (λ b. Some (s, b ++ rest)) h.1
 
 pub expr_again : (front rest : List ℕ) (s : Sequence) → SpellsExpr front s → expr_at (front ++ rest) ≡ Some (s, rest)
 expr_again front rest s h =
-    let shape = split_more front h.front h.back rest h.parts in
-    let n = length (front ++ rest) in
-    let l : length (h.front ++ (h.back ++ rest)) ≤ n = subst (λ b. length b ≤ n) shape (omega arith) in
-    let r = sequence_runs s n [] Empty h.front (h.back ++ rest) h.first l in
-    ap (λ b. instrs_at n [] Empty b) shape ∙ r.2 ∙ last_end s r.0 h.back rest h.second r.1
+    parts_read nothing_built front h.front h.back rest h.parts ∙ sequence_read s nothing_built h.front (h.back ++ rest) h.first ∙ last_read s h.back rest h.second
 
 pub expr_exact : IsExact SpellsExpr expr_at
 expr_exact = record { takes = expr_takes; again = expr_again }

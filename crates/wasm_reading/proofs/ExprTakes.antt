@@ -1,247 +1,194 @@
 -- What is read as an expression is spelled so.
-use Rattle.std.proofs.Common.{◌≡◌, ◌⊎◌, inl, inr, ℕ, zero, suc, List, [], ◌∷◌, ◌++◌, length, Option, Some, refl, sym, ◌∙◌, ap, subst, append_assoc}
+use Rattle.std.proofs.Common.{◌≡◌, ◌⊎◌, inl, inr, ℕ, zero, suc, List, [], ◌∷◌, ◌++◌, length, Option, Some, None, refl, sym, ◌∙◌, ap, subst, append_assoc, true}
+use Rattle.std.proofs.lemmas.Bool.{false≢true}
 use Rattle.byte_cursor.specs.Integers.{BeginsWith}
 use Rattle.wasm_ast.specs.declared.types.ValType.{ValType}
 use Rattle.wasm_ast.specs.declared.instr.Instr.{Instr}
+use Rattle.wasm_ast.specs.declared.instr.BlockKind.{BlockKind}
+use Rattle.wasm_ast.specs.declared.instr.Construct.{Construct}
+use Rattle.wasm_ast.specs.declared.instr.Construct.TheVariants as construct
 use Rattle.wasm_ast.specs.declared.opcode.Opcode.{Opcode}
-use Rattle.wasm_ast.specs.declared.opcode.Opcode.TheVariants as op
-use Rattle.wasm_ast.specs.Sequence.{Sequence, Empty, Plain, Block, Loop, If}
+use Rattle.wasm_ast.specs.Sequence.{Sequence, Empty, Plain, Block, If}
+use Rattle.wasm_ast.specs.Built.{Open, Inside, Else, Built, append, nothing_built, with_plain, with_open, with_else, with_end, whole, closed, takes_else}
 use Rattle.wasm_ast.specs.Spelling.{Joined, Behind}
 use Rattle.wasm_ast.specs.SpelledTypes.{SpellsBlockType}
+use Rattle.wasm_ast.specs.Opcodes.{block_byte}
 use Rattle.wasm_ast.specs.SpelledInstr.{SpellsPlain, SpellsSequence, SpellsExpr}
 use Rattle.wasm_ast.specs.OpcodeTables.{opcode_at, SpellsBehind}
-use Rattle.wasm_ast.proofs.OpcodeLaws.{behind_is_spelled, is_control}
-use Rattle.wasm_reading.specs.Reading.{and_then}
+use Rattle.wasm_ast.proofs.OpcodeLaws.{behind_is_spelled}
+use Rattle.wasm_reading.specs.declared.exprs.Shape.{Shape}
+use Rattle.wasm_reading.specs.declared.exprs.Shape.TheVariants as shape
+use Rattle.wasm_reading.specs.declared.exprs.Step.{Step}
+use Rattle.wasm_reading.specs.declared.exprs.Step.TheVariants.{Going, Whole}
+use Rattle.wasm_reading.specs.Reading.{and_then, mapped}
 use Rattle.wasm_reading.specs.ReadTypes.{blocktype_at}
-use Rattle.wasm_reading.specs.ReadInstr.{immediates_at, append, Open, InBlock, InLoop, InThen, InElse, Going, end_at, else_at, behind_opcode, instrs_at, expr_at}
-use Rattle.wasm_reading.proofs.ReadingLaws.{some_is, read_first}
+use Rattle.wasm_reading.specs.ReadInstr.{immediates_at}
+use Rattle.wasm_reading.specs.ReadExpr.{shape_of, end_step, behind_shape, step_at, goes_on, steps_at, expr_at}
+use Rattle.wasm_reading.proofs.ReadingLaws.{some_is, read_first, chose_some}
 use Rattle.wasm_reading.proofs.TypeLaws.{blocktype_exact}
 use Rattle.wasm_reading.proofs.InstrLaws.{immediates_exact}
 use Rattle.wasm_reading.proofs.Sequences.{append-empty, append-append}
+use Rattle.wasm_reading.proofs.Shapes.{construct_byte, end_byte, else_byte, begin_byte}
 
 -- the rest of a sequence of which before was read, and what comes after it
-abbrev pub Rest : (Sequence → List ℕ → Type 0) → Sequence → List ℕ → Type 0
+abbrev Rest : (Sequence → List ℕ → Type 0) → Sequence → List ℕ → Type 0
 Rest after before bytes = (t : Sequence) × Joined (λ a. SpellsSequence a t) (λ b. after (append before t) b) bytes
 
 -- what comes after the innermost sequence, for the expression to be s
-abbrev pub After : List Open → Sequence → Sequence → List ℕ → Type 0
+abbrev After : List Open → Sequence → Sequence → List ℕ → Type 0
 After [] s done bytes = Behind 0x0B (λ c. (c ≡ []) × (s ≡ done)) bytes
-After (InBlock of under ∷ opens) s done bytes = Behind 0x0B (Rest (After opens s) (append under (Block of done Empty))) bytes
-After (InLoop of under ∷ opens) s done bytes = Behind 0x0B (Rest (After opens s) (append under (Loop of done Empty))) bytes
-After (InThen of under ∷ opens) s done bytes =
+After (Inside (construct.Block k) of under ∷ opens) s done bytes = Behind 0x0B (Rest (After opens s) (append under (Block k of done Empty))) bytes
+After (Inside construct.If of under ∷ opens) s done bytes =
     Behind 0x0B (Rest (After opens s) (append under (If of done Empty Empty))) bytes
     ⊎ Behind 0x05 (Rest (λ two c. Behind 0x0B (Rest (After opens s) (append under (If of done two Empty))) c) Empty) bytes
-After (InElse of one under ∷ opens) s done bytes = Behind 0x0B (Rest (After opens s) (append under (If of one done Empty))) bytes
+After (Else of one under ∷ opens) s done bytes = Behind 0x0B (Rest (After opens s) (append under (If of one done Empty))) bytes
 
 rest_now : (after : Sequence → List ℕ → Type 0) (before : Sequence) (bytes : List ℕ) → after before bytes → Rest after before bytes
 rest_now after before bytes h =
     (Empty, record { front = []; back = bytes; parts = refl; first = refl; second = subst (λ z. after z bytes) (sym (append-empty before)) h })
 
-rest_plain : (after : Sequence → List ℕ → Type 0) (before : Sequence) (i : Instr) (p b : List ℕ) → SpellsPlain p i → Rest after (append before (Plain i Empty)) b → Rest after before (p ++ b)
-rest_plain after before i p b sp h =
+-- a part of the sequence, spelled by head, in front of its rest
+rest_behind : (after : Sequence → List ℕ → Type 0) (before part : Sequence) (head more : List ℕ) → ((r : Sequence) (a : List ℕ) → SpellsSequence a r → SpellsSequence (head ++ a) (append part r)) →
+    Rest after (append before part) more → Rest after before (head ++ more)
+rest_behind after before part head more spelled h =
     let j = h.1 in (
-      Plain i h.0,
+      append part h.0,
       record {
-        front = p ++ j.front;
+        front = head ++ j.front;
         back = j.back;
-        parts = ap (λ m. p ++ m) j.parts ∙ sym (append_assoc p j.front j.back);
-        first = record { front = p; back = j.front; parts = refl; first = sp; second = j.first };
-        second = subst (λ z. after z j.back) (append-append before (Plain i Empty) h.0) j.second;
+        parts = ap (λ m. head ++ m) j.parts ∙ sym (append_assoc head j.front j.back);
+        first = spelled h.0 j.front j.first;
+        second = subst (λ z. after z j.back) (append-append before part h.0) j.second;
       },
     )
 
-regrouped : (q front : List ℕ) (e : ℕ) (inner back more : List ℕ) → more ≡ inner ++ back → q ++ (front ++ e ∷ more) ≡ (q ++ (front ++ e ∷ inner)) ++ back
-regrouped q front e inner back more h =
-    ap (λ m. q ++ (front ++ e ∷ m)) h ∙ ap (λ m. q ++ m) (sym (append_assoc front (e ∷ inner) back)) ∙ sym (append_assoc q (front ++ e ∷ inner) back)
-
+-- an opening byte c, a block type q, instructions t, and the end with what comes behind it
 module _ (after : Sequence → List ℕ → Type 0) (before : Sequence) (of : Option ValType) (c : ℕ) (q : List ℕ) (sq : SpellsBlockType q of) where
-  block_parts : c ≡ 0x02 → (t : Sequence) (front back : List ℕ) → SpellsSequence front t → Behind 0x0B (Rest after (append before (Block of t Empty))) back → Rest after before (c ∷ q ++ (front ++ back))
-  block_parts o t front [] st h = absurd h
-  block_parts o t front (e ∷ more) st h =
-      let j = h.1.1 in (
-        Block of t h.1.0,
-        record {
-          front = c ∷ q ++ (front ++ e ∷ j.front);
-          back = j.back;
-          parts = ap (λ m. c ∷ m) (regrouped q front e j.front j.back more j.parts);
-          first = (o, record { front = q; back = front ++ e ∷ j.front; parts = refl; first = sq; second = record { front = front; back = e ∷ j.front; parts = refl; first = st; second = (h.0, j.first) } });
-          second = subst (λ z. after z j.back) (append-append before (Block of t Empty) h.1.0) j.second;
-        },
-      )
+  abbrev Ends : Sequence → List ℕ → Type 0
+  Ends part bytes = Behind 0x0B (Rest after (append before part)) bytes
 
-  loop_parts : c ≡ 0x03 → (t : Sequence) (front back : List ℕ) → SpellsSequence front t → Behind 0x0B (Rest after (append before (Loop of t Empty))) back → Rest after before (c ∷ q ++ (front ++ back))
-  loop_parts o t front [] st h = absurd h
-  loop_parts o t front (e ∷ more) st h =
-      let j = h.1.1 in (
-        Loop of t h.1.0,
-        record {
-          front = c ∷ q ++ (front ++ e ∷ j.front);
-          back = j.back;
-          parts = ap (λ m. c ∷ m) (regrouped q front e j.front j.back more j.parts);
-          first = (o, record { front = q; back = front ++ e ∷ j.front; parts = refl; first = sq; second = record { front = front; back = e ∷ j.front; parts = refl; first = st; second = (h.0, j.first) } });
-          second = subst (λ z. after z j.back) (append-append before (Loop of t Empty) h.1.0) j.second;
-        },
-      )
+  -- the construct, up to its end, is spelled by c, q and front
+  ends_back : (part : Sequence) (front back : List ℕ) → ((r : Sequence) (e : ℕ) (a : List ℕ) → e ≡ 0x0B → SpellsSequence a r → SpellsSequence (c ∷ (q ++ (front ++ e ∷ a))) (append part r)) →
+      Ends part back → Rest after before (c ∷ q ++ (front ++ back))
+  ends_back part front [] spelled h = absurd h
+  ends_back part front (e ∷ more) spelled h =
+      subst (λ x. Rest after before (c ∷ x)) (simp append_assoc)
+      (rest_behind after before part (c ∷ (q ++ (front ++ e ∷ []))) more
+      (λ r a s. subst (λ x. SpellsSequence (c ∷ x) (append part r)) (simp append_assoc) (spelled r e a h.0 s)) h.1)
 
-  if_parts : c ≡ 0x04 → (t : Sequence) (front back : List ℕ) → SpellsSequence front t → Behind 0x0B (Rest after (append before (If of t Empty Empty))) back → Rest after before (c ∷ q ++ (front ++ back))
-  if_parts o t front [] st h = absurd h
-  if_parts o t front (e ∷ more) st h =
-      let j = h.1.1 in (
-        If of t Empty h.1.0,
-        record {
-          front = c ∷ q ++ (front ++ e ∷ j.front);
-          back = j.back;
-          parts = ap (λ m. c ∷ m) (regrouped q front e j.front j.back more j.parts);
-          first = (
-            o,
-            record {
-              front = q;
-              back = front ++ e ∷ j.front;
-              parts = refl;
-              first = sq;
-              second = inl (record { front = front; back = e ∷ j.front; parts = refl; first = st; second = (h.0, j.first) }, refl);
-            },
-          );
-          second = subst (λ z. after z j.back) (append-append before (If of t Empty Empty) h.1.0) j.second;
-        },
-      )
+  block_back : (k : BlockKind) → c ≡ block_byte k → (b : List ℕ) → Rest (λ done d. Ends (Block k of done Empty) d) Empty b → Rest after before (c ∷ q ++ b)
+  block_back k o b h =
+      let j = h.1 in
+      subst (λ m. Rest after before (c ∷ q ++ m)) (sym j.parts)
+      (ends_back (Block k of h.0 Empty) j.front j.back
+      (λ r e a l s. (o, record { front = q; back = j.front ++ e ∷ a; parts = refl; first = sq; second = record { front = j.front; back = e ∷ a; parts = refl; first = j.first; second = (l, s) } }))
+      j.second)
 
-  else_parts : c ≡ 0x04 → (t : Sequence) (front : List ℕ) → SpellsSequence front t → (d : ℕ) → d ≡ 0x05 →
-      (u : Sequence) (inner back : List ℕ) → SpellsSequence inner u → Behind 0x0B (Rest after (append before (If of t u Empty))) back → Rest after before (c ∷ q ++ (front ++ d ∷ (inner ++ back)))
-  else_parts o t front st d od u inner [] su h = absurd h
-  else_parts o t front st d od u inner (e ∷ more) su h =
-      let j = h.1.1 in (
-        If of t u h.1.0,
-        record {
-          front = c ∷ q ++ (front ++ d ∷ (inner ++ e ∷ j.front));
-          back = j.back;
-          parts = ap (λ m. c ∷ m) (regrouped q front d (inner ++ e ∷ j.front) j.back (inner ++ e ∷ more) (ap (λ m. inner ++ e ∷ m) j.parts ∙ sym (append_assoc inner (e ∷ j.front) j.back)));
-          first = (
-            o,
-            record {
-              front = q;
-              back = front ++ d ∷ (inner ++ e ∷ j.front);
-              parts = refl;
-              first = sq;
-              second = inr (record {
-                front = front;
-                back = d ∷ (inner ++ e ∷ j.front);
-                parts = refl;
-                first = st;
-                second = (od, record { front = inner; back = e ∷ j.front; parts = refl; first = su; second = (h.0, j.first) });
-              });
-            },
-          );
-          second = subst (λ z. after z j.back) (append-append before (If of t u Empty) h.1.0) j.second;
-        },
-      )
-
-  else_back : c ≡ 0x04 → (t : Sequence) (front back : List ℕ) → SpellsSequence front t →
-      Behind 0x05 (Rest (λ two d. Behind 0x0B (Rest after (append before (If of t two Empty))) d) Empty) back → Rest after before (c ∷ q ++ (front ++ back))
+  else_back : c ≡ 0x04 → (t : Sequence) (front back : List ℕ) → SpellsSequence front t → Behind 0x05 (Rest (λ two d. Ends (If of t two Empty) d) Empty) back → Rest after before (c ∷ q ++ (front ++ back))
   else_back o t front [] st h = absurd h
   else_back o t front (d ∷ more) st h =
       let j = h.1.1 in
-      subst (λ m. Rest after before (c ∷ q ++ (front ++ d ∷ m))) (sym j.parts) (else_parts o t front st d h.0 h.1.0 j.front j.back j.first j.second)
+      let shape : (front ++ d ∷ j.front) ++ j.back ≡ front ++ d ∷ more = append_assoc front (d ∷ j.front) j.back ∙ ap (λ m. front ++ d ∷ m) (sym j.parts) in
+      subst (λ x. Rest after before (c ∷ q ++ x)) shape
+      (ends_back (If of t h.1.0 Empty) (front ++ d ∷ j.front) j.back
+      (λ r e a l s. (
+        o,
+        record {
+          front = q;
+          back = (front ++ d ∷ j.front) ++ e ∷ a;
+          parts = refl;
+          first = sq;
+          second = inr (record { front = front; back = d ∷ (j.front ++ e ∷ a); parts = simp append_assoc; first = st; second = (h.0, record { front = j.front; back = e ∷ a; parts = refl; first = j.first; second = (l, s) }) });
+        },
+      )) j.second)
 
-  block_back : c ≡ 0x02 → (b : List ℕ) → Rest (λ done d. Behind 0x0B (Rest after (append before (Block of done Empty))) d) Empty b → Rest after before (c ∷ q ++ b)
-  block_back o b h = subst (λ m. Rest after before (c ∷ q ++ m)) (sym h.1.parts) (block_parts o h.0 h.1.front h.1.back h.1.first h.1.second)
+  if_back : c ≡ 0x04 → (b : List ℕ) → Rest (λ done d. Ends (If of done Empty Empty) d ⊎ Behind 0x05 (Rest (λ two f. Ends (If of done two Empty) f) Empty) d) Empty b → Rest after before (c ∷ q ++ b)
+  if_back o b h =
+      let j = h.1 in
+      subst (λ m. Rest after before (c ∷ q ++ m)) (sym j.parts)
+      (elim j.second [
+        | inl w ↦
+            ends_back (If of h.0 Empty Empty) j.front j.back
+            (λ r e a l s. (o, record { front = q; back = j.front ++ e ∷ a; parts = refl; first = sq; second = inl (record { front = j.front; back = e ∷ a; parts = refl; first = j.first; second = (l, s) }, refl) })) w
+        | inr w ↦ else_back o h.0 j.front j.back j.first w
+      ])
 
-  loop_back : c ≡ 0x03 → (b : List ℕ) → Rest (λ done d. Behind 0x0B (Rest after (append before (Loop of done Empty))) d) Empty b → Rest after before (c ∷ q ++ b)
-  loop_back o b h = subst (λ m. Rest after before (c ∷ q ++ m)) (sym h.1.parts) (loop_parts o h.0 h.1.front h.1.back h.1.first h.1.second)
+-- what is read from there is spelled so
+abbrev Took : Built → List ℕ → Sequence → List ℕ → Type 0
+Took v bytes s rest = (front : List ℕ) × Rest (After v.opens s) v.before front × (bytes ≡ front ++ rest)
 
-  if_back : c ≡ 0x04 → (b : List ℕ) →
-      Rest (λ done d. Behind 0x0B (Rest after (append before (If of done Empty Empty))) d ⊎ Behind 0x05 (Rest (λ two f. Behind 0x0B (Rest after (append before (If of done two Empty))) f) Empty) d) Empty b →
-      Rest after before (c ∷ q ++ b)
-  if_back o b h = subst (λ m. Rest after before (c ∷ q ++ m)) (sym h.1.parts)
-      (elim h.1.second [ inl w ↦ if_parts o h.0 h.1.front h.1.back h.1.first w | inr w ↦ else_back o h.0 h.1.front h.1.back h.1.first w ])
+abbrev IsSound : (Built → List ℕ → Option (Sequence × List ℕ)) → Type 0
+IsSound go = (v : Built) (bytes : List ℕ) (s : Sequence) (rest : List ℕ) → go v bytes ≡ Some (s, rest) → Took v bytes s rest
 
--- what go reads is spelled so
-abbrev IsSound : Going → Type 0
-IsSound go = (opens : List Open) (before : Sequence) (bytes : List ℕ) (s : Sequence) (rest : List ℕ) → go opens before bytes ≡ Some (s, rest) →
-    (front : List ℕ) × Rest (After opens s) before front × (bytes ≡ front ++ rest)
+module _ (go : Built → List ℕ → Option (Sequence × List ℕ)) (sound : IsSound go) (b : ℕ) (bytes : List ℕ) (s : Sequence) (rest : List ℕ) where
+  -- the end of the innermost construct, or that of the expression
+  end_took : b ≡ 0x0B → (opens : List Open) (before : Sequence) → goes_on go (end_step (record { opens = opens; before = before })) bytes ≡ Some (s, rest) → Took (record { opens = opens; before = before }) (b ∷ bytes) s rest
+  end_took e [] before h = (b ∷ [], rest_now (After [] s) before (b ∷ []) (e, (refl, ap (λ z. z.0) (sym (some_is _ _ h)))), ap (λ z. b ∷ z.1) (some_is _ _ h))
+  end_took e (Inside (construct.Block k) of under ∷ opens) before h =
+      let g = sound (record { opens = opens; before = append under (Block k of before Empty) }) bytes s rest h in
+      (b ∷ g.0, rest_now (After (Inside (construct.Block k) of under ∷ opens) s) before (b ∷ g.0) (e, g.1), ap (λ m. b ∷ m) g.2)
+  end_took e (Inside construct.If of under ∷ opens) before h =
+      let g = sound (record { opens = opens; before = append under (If of before Empty Empty) }) bytes s rest h in
+      (b ∷ g.0, rest_now (After (Inside construct.If of under ∷ opens) s) before (b ∷ g.0) (inl (e, g.1)), ap (λ m. b ∷ m) g.2)
+  end_took e (Else of one under ∷ opens) before h =
+      let g = sound (record { opens = opens; before = append under (If of one before Empty) }) bytes s rest h in
+      (b ∷ g.0, rest_now (After (Else of one under ∷ opens) s) before (b ∷ g.0) (e, g.1), ap (λ m. b ∷ m) g.2)
 
-module _ (go : Going) (sound : IsSound go) (b : ℕ) (bytes : List ℕ) (s : Sequence) (rest : List ℕ) where
-  abbrev Took : List Open → Sequence → Type 0
-  Took opens before = (front : List ℕ) × Rest (After opens s) before front × (b ∷ bytes ≡ front ++ rest)
-
-  end_sound : b ≡ 0x0B → (opens : List Open) (before : Sequence) → end_at go opens before bytes ≡ Some (s, rest) → Took opens before
-  end_sound e [] before h =
-      (b ∷ [], rest_now (After [] s) before (b ∷ []) (e, (refl, ap (λ z. z.0) (sym (some_is _ _ h)))), ap (λ z. b ∷ z.1) (some_is _ _ h))
-  end_sound e (InBlock of under ∷ opens) before h =
-      let g = sound opens (append under (Block of before Empty)) bytes s rest h in
-      (b ∷ g.0, rest_now (After (InBlock of under ∷ opens) s) before (b ∷ g.0) (e, g.1), ap (λ m. b ∷ m) g.2)
-  end_sound e (InLoop of under ∷ opens) before h =
-      let g = sound opens (append under (Loop of before Empty)) bytes s rest h in
-      (b ∷ g.0, rest_now (After (InLoop of under ∷ opens) s) before (b ∷ g.0) (e, g.1), ap (λ m. b ∷ m) g.2)
-  end_sound e (InThen of under ∷ opens) before h =
-      let g = sound opens (append under (If of before Empty Empty)) bytes s rest h in
-      (b ∷ g.0, rest_now (After (InThen of under ∷ opens) s) before (b ∷ g.0) (inl (e, g.1)), ap (λ m. b ∷ m) g.2)
-  end_sound e (InElse of one under ∷ opens) before h =
-      let g = sound opens (append under (If of one before Empty)) bytes s rest h in
-      (b ∷ g.0, rest_now (After (InElse of one under ∷ opens) s) before (b ∷ g.0) (e, g.1), ap (λ m. b ∷ m) g.2)
-
-  else_sound : b ≡ 0x05 → (opens : List Open) (before : Sequence) → else_at go opens before bytes ≡ Some (s, rest) → Took opens before
-  else_sound e [] before h = cc
-  else_sound e (InBlock of under ∷ opens) before h = cc
-  else_sound e (InLoop of under ∷ opens) before h = cc
-  else_sound e (InThen of under ∷ opens) before h =
-      let g = sound (InElse of before under ∷ opens) Empty bytes s rest h in
-      (b ∷ g.0, rest_now (After (InThen of under ∷ opens) s) before (b ∷ g.0) (inr (e, g.1)), ap (λ m. b ∷ m) g.2)
-  else_sound e (InElse of one under ∷ opens) before h = cc
+  else_took : b ≡ 0x05 → (opens : List Open) (before : Sequence) → takes_else opens ≡ true → goes_on go (Going (with_else (record { opens = opens; before = before }))) bytes ≡ Some (s, rest) →
+      Took (record { opens = opens; before = before }) (b ∷ bytes) s rest
+  else_took e [] before t h = absurd (false≢true t)
+  else_took e (Inside (construct.Block k) of under ∷ opens) before t h = absurd (false≢true t)
+  else_took e (Inside construct.If of under ∷ opens) before t h =
+      let g = sound (record { opens = Else of before under ∷ opens; before = Empty }) bytes s rest h in
+      (b ∷ g.0, rest_now (After (Inside construct.If of under ∷ opens) s) before (b ∷ g.0) (inr (e, g.1)), ap (λ m. b ∷ m) g.2)
+  else_took e (Else of one under ∷ opens) before t h = absurd (false≢true t)
 
   -- a block type, and what is read behind it
-  opened : (q mid front : List ℕ) → bytes ≡ q ++ mid → mid ≡ front ++ rest → b ∷ bytes ≡ (b ∷ q ++ front) ++ rest
-  opened q mid front h k = ap (λ m. b ∷ m) (h ∙ ap (λ m. q ++ m) k ∙ sym (append_assoc q front rest))
+  behind : (q mid front : List ℕ) → bytes ≡ q ++ mid → mid ≡ front ++ rest → b ∷ bytes ≡ (b ∷ q ++ front) ++ rest
+  behind q mid front h k = ap (λ m. b ∷ m) (h ∙ ap (λ m. q ++ m) k ∙ sym (append_assoc q front rest))
 
-  block_sound : b ≡ 0x02 → (opens : List Open) (before : Sequence) → and_then (blocktype_at bytes) (λ of rest. go (InBlock of before ∷ opens) Empty rest) ≡ Some (s, rest) → Took opens before
-  block_sound e opens before h =
-      let u = read_first (blocktype_at bytes) (λ of rest. go (InBlock of before ∷ opens) Empty rest) (s, rest) h in
+  begin_took : (c : Construct) → b ≡ construct_byte c → (v : Built) (of : Option ValType) (mid q : List ℕ) → SpellsBlockType q of → bytes ≡ q ++ mid → go (with_open c of v) mid ≡ Some (s, rest) → Took v (b ∷ bytes) s rest
+  begin_took (construct.Block k) e v of mid q sq p h =
+      let g = sound (with_open (construct.Block k) of v) mid s rest h in
+      (b ∷ q ++ g.0, block_back (After v.opens s) v.before of b q sq k e g.0 g.1, behind q mid g.0 p g.2)
+  begin_took construct.If e v of mid q sq p h =
+      let g = sound (with_open construct.If of v) mid s rest h in
+      (b ∷ q ++ g.0, if_back (After v.opens s) v.before of b q sq e g.0 g.1, behind q mid g.0 p g.2)
+
+  step_took : (of : Shape) → shape_of (opcode_at b) ≡ of → (v : Built) (p : Step) (mid : List ℕ) → behind_shape of (opcode_at b) v bytes ≡ Some (p, mid) → goes_on go p mid ≡ Some (s, rest) → Took v (b ∷ bytes) s rest
+  step_took shape.End e v p mid h g =
+      let same = some_is _ _ h in
+      end_took (end_byte b e) v.opens v.before (ap (λ z. goes_on go z.0 z.1) same ∙ g)
+  step_took shape.Else e v p mid h g =
+      let chosen = chose_some (takes_else v.opens) (Some (Going (with_else v), bytes)) (p, mid) h in
+      else_took (else_byte b e) v.opens v.before chosen.0 (ap (λ z. goes_on go z.0 z.1) (some_is _ _ chosen.1) ∙ g)
+  step_took (shape.Begin c) e v p mid h g =
+      let u = read_first (blocktype_at bytes) (λ of more. Some (Going (with_open c of v), more)) (p, mid) h in
       let t = blocktype_exact.takes bytes u.0 u.1 u.2 in
-      let g = sound (InBlock u.0 before ∷ opens) Empty u.1 s rest u.3 in
-      (b ∷ t.0 ++ g.0, block_back (After opens s) before u.0 b t.0 t.1 e g.0 g.1, opened t.0 u.1 g.0 t.2 g.2)
+      begin_took c (begin_byte b c e) v u.0 u.1 t.0 t.1 t.2 (ap (λ z. goes_on go z.0 z.1) (some_is _ _ u.3) ∙ g)
+  step_took shape.Plain e v p mid h g =
+      let u = read_first (immediates_at (opcode_at b) bytes) (λ i more. Some (Going (with_plain i v), more)) (p, mid) h in
+      let t = (immediates_exact (opcode_at b)).takes bytes u.0 u.1 u.2 in
+      let w = sound (with_plain u.0 v) u.1 s rest (ap (λ z. goes_on go z.0 z.1) (some_is _ _ u.3) ∙ g) in (
+        b ∷ t.0 ++ w.0,
+        rest_behind (After v.opens s) v.before (Plain u.0 Empty) (b ∷ t.0) w.0 (λ r a sa. record { front = b ∷ t.0; back = a; parts = refl; first = behind_is_spelled b t.0 u.0 t.1; second = sa }) w.1,
+        behind t.0 u.1 w.0 t.2 w.2,
+      )
 
-  loop_sound : b ≡ 0x03 → (opens : List Open) (before : Sequence) → and_then (blocktype_at bytes) (λ of rest. go (InLoop of before ∷ opens) Empty rest) ≡ Some (s, rest) → Took opens before
-  loop_sound e opens before h =
-      let u = read_first (blocktype_at bytes) (λ of rest. go (InLoop of before ∷ opens) Empty rest) (s, rest) h in
-      let t = blocktype_exact.takes bytes u.0 u.1 u.2 in
-      let g = sound (InLoop u.0 before ∷ opens) Empty u.1 s rest u.3 in
-      (b ∷ t.0 ++ g.0, loop_back (After opens s) before u.0 b t.0 t.1 e g.0 g.1, opened t.0 u.1 g.0 t.2 g.2)
-
-  if_sound : b ≡ 0x04 → (opens : List Open) (before : Sequence) → and_then (blocktype_at bytes) (λ of rest. go (InThen of before ∷ opens) Empty rest) ≡ Some (s, rest) → Took opens before
-  if_sound e opens before h =
-      let u = read_first (blocktype_at bytes) (λ of rest. go (InThen of before ∷ opens) Empty rest) (s, rest) h in
-      let t = blocktype_exact.takes bytes u.0 u.1 u.2 in
-      let g = sound (InThen u.0 before ∷ opens) Empty u.1 s rest u.3 in
-      (b ∷ t.0 ++ g.0, if_back (After opens s) before u.0 b t.0 t.1 e g.0 g.1, opened t.0 u.1 g.0 t.2 g.2)
-
-  plain_sound : (o : Opcode) → opcode_at b ≡ o → (opens : List Open) (before : Sequence) → and_then (immediates_at o bytes) (λ i rest. go opens (append before (Plain i Empty)) rest) ≡ Some (s, rest) → Took opens before
-  plain_sound o e opens before h =
-      let u = read_first (immediates_at o bytes) (λ i rest. go opens (append before (Plain i Empty)) rest) (s, rest) h in
-      let t = (immediates_exact o).takes bytes u.0 u.1 u.2 in
-      let g = sound opens (append before (Plain u.0 Empty)) u.1 s rest u.3 in
-      (b ∷ t.0 ++ g.0, rest_plain (After opens s) before u.0 (b ∷ t.0) g.0 (behind_is_spelled b t.0 u.0 (subst (λ p. SpellsBehind p t.0 u.0) (sym e) t.1)) g.1, opened t.0 u.1 g.0 t.2 g.2)
-
-  step_sound : (o : Opcode) → opcode_at b ≡ o → (opens : List Open) (before : Sequence) → behind_opcode go o opens before bytes ≡ Some (s, rest) → Took opens before
-  step_sound op.End e opens before h = end_sound (is_control b op.End 0x0B refl e) opens before h
-  step_sound op.Else e opens before h = else_sound (is_control b op.Else 0x05 refl e) opens before h
-  step_sound op.Block e opens before h = block_sound (is_control b op.Block 0x02 refl e) opens before h
-  step_sound op.Loop e opens before h = loop_sound (is_control b op.Loop 0x03 refl e) opens before h
-  step_sound op.If e opens before h = if_sound (is_control b op.If 0x04 refl e) opens before h
-  step_sound o e opens before h = plain_sound o e opens before h
-
-pub instrs_sound : (n : ℕ) → IsSound (instrs_at n)
-unfolding instrs_at
-instrs_sound zero opens before bytes s rest h = cc
-instrs_sound (suc n) opens before [] s rest h = cc
-instrs_sound (suc n) opens before (b ∷ bytes) s rest h = step_sound (instrs_at n) (instrs_sound n) b bytes s rest (opcode_at b) refl opens before h
+steps_sound : (n : ℕ) → IsSound (steps_at n)
+unfolding steps_at
+steps_sound zero v bytes s rest h = cc
+steps_sound (suc n) v [] s rest h = cc
+steps_sound (suc n) v (b ∷ bytes) s rest h =
+    let u = read_first (step_at v (b ∷ bytes)) (goes_on (steps_at n)) (s, rest) h in
+    step_took (steps_at n) (steps_sound n) b bytes s rest (shape_of (opcode_at b)) refl v u.0 u.1 u.2 u.3
 
 expr_spelled : (t s : Sequence) (front back : List ℕ) → SpellsSequence front t → Behind 0x0B (λ c. (c ≡ []) × (s ≡ t)) back → SpellsExpr (front ++ back) s
 expr_spelled t s front [] st h = absurd h
-expr_spelled t s front (e ∷ back) st h =
-    record { front = front; back = e ∷ back; parts = refl; first = subst (λ z. SpellsSequence front z) (sym h.1.1) st; second = (h.0, h.1.0) }
+expr_spelled t s front (e ∷ back) st h = record { front = front; back = e ∷ back; parts = refl; first = subst (λ z. SpellsSequence front z) (sym h.1.1) st; second = (h.0, h.1.0) }
 
 pub expr_takes : (bytes : List ℕ) (s : Sequence) (rest : List ℕ) → expr_at bytes ≡ Some (s, rest) → BeginsWith SpellsExpr bytes s rest
 expr_takes bytes s rest h =
-    let g = instrs_sound (length bytes) [] Empty bytes s rest h in
+    let g = steps_sound (length bytes) nothing_built bytes s rest h in
     let j = g.1.1 in
     (g.0, subst (λ b. SpellsExpr b s) (sym j.parts) (expr_spelled g.1.0 s j.front j.back j.first j.second), g.2)

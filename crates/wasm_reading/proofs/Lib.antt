@@ -2,15 +2,12 @@ pub mod ReadingLaws
 pub mod TypeLaws
 pub mod InstrLaws
 pub mod Sequences
+pub mod Steps
+pub mod Shapes
 pub mod ExprTakes
 pub mod ExprAgain
 pub mod PartLaws
 pub mod ModuleLaws
 pub mod ItemLemmas
 pub mod GroupLemmas
-pub mod Numbered
-pub mod Standing
-pub mod Steps
-pub mod CodeSteps
-pub mod StepLaws
 pub mod SectionLemmas

@@ -1,35 +1,23 @@
-use Rattle.std.proofs.Common.{◌∙◌, sym, ap, refl, subst, Ok, Some, [], ◌∷◌, ◌++◌}
-use Rattle.wasm_reading.specs.Reads.{GoesOn, Stepped}
-use Rattle.wasm_reading.proofs.StepLaws.{filled_first, filled_on, filled_last}
+use Rattle.std.proofs.Common.{◌∙◌, ap, Some}
+use Rattle.std.proofs.lemmas.Result.{err_from_is_err_and}
+use Rattle.wasm_reading.specs.declared.exprs.Step.{Step}
+use Rattle.wasm_reading.specs.declared.exprs.Step.TheVariants.{Going, Whole}
+use Rattle.wasm_reading.proofs.ItemLemmas.{handed_on}
+use Rattle.wasm_reading.proofs.Steps.{step_to, step_none, step_shorter}
 use Rattle.wasm_reading.proofs.exprs.expr.Goals as goal
 
-pub loop-filling-init : goal.loop-filling-init
-loop-filling-init c =
-    filled_first c.args.cursor.now (record { lists = c.push.new.self; opens = c.new-2.result; list = 0 })
-    (c.in_ok-push.ensures.items ∙ ap (λ x. x ++ c.new.result ∷ []) c.in_ok-lists.ensures.items ∙ ap (λ r. r ∷ []) c.new.ensures) c.new-2.ensures.items refl
+pub returns-in_err-body : goal.returns-in_err-body
+returns-in_err-body c =
+    let p = err_from_is_err_and c.from_residual-in_err-body.result c.from_residual-in_err-body.ensures.1 in
+    rw (p.1, p.2) (handed_on c.in_err-body.field-0.0 _ _ c.in_err-body.ensures (λ h. c.steps.invariant ∙ step_none c.steps.built c.steps.cursor h))
 
-pub new-requires-then-last : goal.new-requires-then-last
-new-requires-then-last c =
-    let q = c.loop-filling.invariant in
-    (filled_last c.args.cursor.now c.loop-filling.cursor c.step.new.cursor c.loop-filling.filling c.step.new.self q
-    (subst (λ b. Stepped (Ok b) c.step.new.self c.loop-filling.cursor c.step.new.cursor q.left q.opens q.so_far) c.if-last.true (c.in_ok-last.ensures q.left q.opens q.so_far q.reads q.fits))).0
+pub returns-in-Whole : goal.returns-in-Whole
+returns-in-Whole c =
+    c.steps.invariant ∙ step_to c.steps.built c.steps.cursor (Whole c.in-Whole.body) c.next_step.new.cursor (c.in_ok-body.ensures ∙ ap (λ (p : Step). Some (p, c.next_step.new.cursor)) c.in-Whole.is)
 
-pub returns-then-last : goal.returns-then-last
-returns-then-last c =
-    let q = c.loop-filling.invariant in
-    (filled_last c.args.cursor.now c.loop-filling.cursor c.step.new.cursor c.loop-filling.filling c.step.new.self q
-    (subst (λ b. Stepped (Ok b) c.step.new.self c.loop-filling.cursor c.step.new.cursor q.left q.opens q.so_far) c.if-last.true (c.in_ok-last.ensures q.left q.opens q.so_far q.reads q.fits))).1
-    ∙ ap (λ b. Some (b, c.step.new.cursor)) (sym c.new-then-last.ensures)
+pub steps-smaller : goal.steps-smaller
+steps-smaller c = step_shorter c.steps.built c.steps.cursor c.in_ok-body.field-0 c.next_step.new.cursor c.in_ok-body.ensures
 
-pub loop-filling-smaller : goal.loop-filling-smaller
-loop-filling-smaller c =
-    let q = c.loop-filling.invariant in
-    let s : GoesOn c.step.new.self c.loop-filling.cursor c.step.new.cursor q.left q.opens q.so_far =
-    subst (λ b. Stepped (Ok b) c.step.new.self c.loop-filling.cursor c.step.new.cursor q.left q.opens q.so_far) c.if-last.false (c.in_ok-last.ensures q.left q.opens q.so_far q.reads q.fits) in
-    s.shorter
-
-pub loop-filling-preserved : goal.loop-filling-preserved
-loop-filling-preserved c =
-    let q = c.loop-filling.invariant in
-    filled_on c.args.cursor.now c.loop-filling.cursor c.step.new.cursor c.loop-filling.filling c.step.new.self q
-    (subst (λ b. Stepped (Ok b) c.step.new.self c.loop-filling.cursor c.step.new.cursor q.left q.opens q.so_far) c.if-last.false (c.in_ok-last.ensures q.left q.opens q.so_far q.reads q.fits))
+pub steps-preserved : goal.steps-preserved
+steps-preserved c =
+    c.steps.invariant ∙ step_to c.steps.built c.steps.cursor (Going c.in-Going.next) c.next_step.new.cursor (c.in_ok-body.ensures ∙ ap (λ (p : Step). Some (p, c.next_step.new.cursor)) c.in-Going.is)

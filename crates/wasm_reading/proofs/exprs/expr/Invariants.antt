@@ -1,9 +1,9 @@
-use Rattle.std.proofs.Common.{length}
-use Rattle.wasm_reading.proofs.StepLaws.{Filled}
+use Rattle.std.proofs.Common.{◌≡◌, length}
+use Rattle.wasm_reading.specs.ReadExpr.{expr_at, rest_at}
 use Rattle.wasm_reading.proofs.exprs.expr.Given as goal
 
-abbrev pub invariant-loop-filling : goal.invariant-loop-filling
-invariant-loop-filling l = Filled l.initial.cursor l.cursor l.filling
+abbrev pub invariant-steps : goal.invariant-steps
+invariant-steps l = expr_at l.initial.cursor ≡ rest_at l.built l.cursor
 
-abbrev pub decreases-loop-filling : goal.decreases-loop-filling
-decreases-loop-filling l = length l.cursor
+abbrev pub decreases-steps : goal.decreases-steps
+decreases-steps l = length l.cursor
