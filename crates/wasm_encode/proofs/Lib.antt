@@ -8,4 +8,4 @@ pub mod LeastItems
 pub mod LeastGroups
 pub mod LeastSections
 pub mod LeastModule
-pub mod LeftLemmas
+pub mod EventLemmas
