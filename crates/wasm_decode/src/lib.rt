@@ -10,7 +10,7 @@ mod items;
 mod parts;
 mod read;
 mod reading;
-mod summary;
+mod search;
 mod thin;
 
 pub use decoding::decode;
