@@ -26,17 +26,14 @@ impl<'a> Case<'a> {
     /// The case of a line `NAME: WORDS` or `NAME: WORDS -> WORDS`.
     fn parse(line: &'a str) -> Option<Case<'a>> {
         let (name, words) = line.split_once(": ")?;
-        Some(match words.split_once(" -> ") {
-            Some((words, written)) => Case {
-                name,
-                words,
-                written: Some(written),
-            },
-            None => Case {
-                name,
-                words,
-                written: None,
-            },
+        let (words, written) = match words.split_once(" -> ") {
+            Some((words, written)) => (words, Some(written)),
+            None => (words, None),
+        };
+        Some(Case {
+            name,
+            words,
+            written,
         })
     }
 
@@ -89,13 +86,15 @@ impl Each {
 }
 
 /// A line with the answers to all variations, in their order: how many have the same answer, and which.
-fn print_each(rt: &(impl Print + AllocGlobal), fragments: &Fragments, case: Case) -> Result<()> {
+fn print_each(
+    rt: &(impl Print + AllocGlobal),
+    fragments: &Fragments,
+    each: Each,
+    case: Case,
+) -> Result<()> {
     let alloc = rt.alloc();
-    let Some((each, words)) = Each::parse(case.words) else {
-        return Ok(());
-    };
     let written = case.written(alloc, fragments)?;
-    let whole = fragments.spell(alloc, words, Variation::None)?;
+    let whole = fragments.spell(alloc, case.words, Variation::None)?;
     let count = match each {
         Each::Front => whole.bracketed,
         Each::Number(_) => whole.numbers,
@@ -103,7 +102,9 @@ fn print_each(rt: &(impl Print + AllocGlobal), fragments: &Fragments, case: Case
     let mut alike: Option<(Answer, usize)> = None;
     print!(rt; "{}:", case.name)?;
     for index in 0..count {
-        let bytes = fragments.spell(alloc, words, each.variation(index))?.bytes;
+        let bytes = fragments
+            .spell(alloc, case.words, each.variation(index))?
+            .bytes;
         let found = judged(alloc, bytes.as_slice(), &written)?;
         alike = Some(match alike {
             Some((last, times)) if last == found => (last, times.saturating_add(1)),
@@ -123,8 +124,8 @@ fn print_each(rt: &(impl Print + AllocGlobal), fragments: &Fragments, case: Case
 
 /// The line of a case.
 fn print_case(rt: &(impl Print + AllocGlobal), fragments: &Fragments, case: Case) -> Result<()> {
-    if Each::parse(case.words).is_some() {
-        return print_each(rt, fragments, case);
+    if let Some((each, words)) = Each::parse(case.words) {
+        return print_each(rt, fragments, each, Case { words, ..case });
     }
     let alloc = rt.alloc();
     let written = case.written(alloc, fragments)?;
