@@ -23,6 +23,8 @@ use Rattle.wasm_ast.specs.declared.instr.Access.{Access}
 use Rattle.wasm_ast.specs.declared.instr.Access.TheVariants.{Load, Store, Notify, Wait, AtomicLoad, AtomicStore, AtomicRmw, AtomicCompareExchange}
 use Rattle.wasm_ast.specs.declared.instr.BlockKind.{BlockKind}
 use Rattle.wasm_ast.specs.declared.instr.BlockKind.TheVariants as kind
+use Rattle.wasm_ast.specs.declared.instr.Construct.{Construct}
+use Rattle.wasm_ast.specs.declared.instr.Construct.TheVariants as construct
 use Rattle.wasm_ast.specs.declared.instr.Instr.{Instr}
 use Rattle.wasm_ast.specs.declared.instr.Instr.TheVariants as instr
 use Rattle.wasm_ast.specs.Immediates.{Immediates, Nothing, Index, Labels, IndexAndZero, Argument, Zero, Signed32, Signed64, Raw, Never, Value}
@@ -144,6 +146,10 @@ access_opcode (AtomicCompareExchange of) = 0xFE ∷ (0x48 + form_place of) ∷ [
 abbrev pub block_byte : BlockKind → ℕ
 block_byte kind.Block = 0x02
 block_byte kind.Loop = 0x03
+
+abbrev pub construct_byte : Construct → ℕ
+construct_byte (construct.Block k) = block_byte k
+construct_byte construct.If = 0x04
 
 -- an opcode, and what stands behind it
 pub record Encoding : Type 0 where

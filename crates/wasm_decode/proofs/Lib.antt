@@ -6,6 +6,6 @@ pub mod Heights
 pub mod Distinct
 pub mod Fit
 pub mod Answering
-pub mod SummaryLemmas
+pub mod SearchLemmas
 pub mod DecodeRows
 pub mod BoundLemmas

@@ -14,7 +14,7 @@ use Rattle.wasm_ast.specs.declared.module.Import.{Import}
 use Rattle.wasm_ast.specs.declared.module.GlobalVar.{GlobalVar}
 use Rattle.wasm_ast.specs.declared.module.Code.{Code}
 use Rattle.wasm_ast.specs.declared.module.Module.{Module}
-use Rattle.wasm_ast.specs.Sequence.{Sequence, Empty, Plain, Block, Loop, If}
+use Rattle.wasm_ast.specs.Sequence.{Sequence, Empty, Plain, Block, If}
 use Rattle.wasm_decode.specs.Bodies.{any_body}
 
 abbrev pub is_float : ValType → Bool
@@ -35,8 +35,7 @@ instruction_is_float _ = false
 abbrev pub has_float : Sequence → Bool
 has_float Empty = false
 has_float (Plain i rest) = instruction_is_float i || has_float rest
-has_float (Block of body rest) = (block_is_float of || has_float body) || has_float rest
-has_float (Loop of body rest) = (block_is_float of || has_float body) || has_float rest
+has_float (Block k of body rest) = (block_is_float of || has_float body) || has_float rest
 has_float (If of first second rest) = (block_is_float of || (has_float first || has_float second)) || has_float rest
 
 abbrev pub type_has_float : FuncType → Bool

@@ -7,7 +7,8 @@ pub mod Grammar
 pub mod Nesting
 pub mod Reading
 pub mod Segment
-pub mod Summary
+pub mod Judged
+pub mod Search
 pub mod ThinGrammar
 pub mod ThinModule
 pub mod Views

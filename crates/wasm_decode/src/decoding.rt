@@ -5,12 +5,12 @@ ghost use Rattle.wasm_ast.specs.declared.module.Module.{Module as SpelledModule}
 ghost use Rattle.wasm_decode.specs.declared.fault.Bound.{Bound as Passed};
 ghost use Rattle.wasm_decode.specs.Bounds.{most_bytes};
 ghost use Rattle.wasm_decode.specs.Decodes.{SpellsModest, SpellsNone, SpellsFloat, Passes, Decodes, IsUnlessMemory};
-ghost use Rattle.wasm_decode.specs.Summary.{judged};
+ghost use Rattle.wasm_decode.specs.Judged.{judged};
 
 use crate::bounds::first_passed;
 use crate::fault::{Bound, DecodeFault};
 use crate::floats::types_have_float;
-use crate::summary::of_module;
+use crate::search::search;
 use std::alloc::Global;
 use wasm_ast::Module;
 use wasm_reading::{ReadFault, bytes_spell_one_module, read};
@@ -21,11 +21,11 @@ const MOST_BYTES: usize = 4_194_304;
 fn judged(alloc: Global, module: Module) -> Result<Module, DecodeFault>
     ensures { IsUnlessMemory result (judged «module») }
 {
-    let found = of_module(alloc, &module)?;
+    let found = search(alloc, &module)?;
     if types_have_float(&module) || found.float {
         return Err(DecodeFault::Float);
     }
-    match first_passed(&module, found.depth > 256) {
+    match first_passed(&module, found.deep) {
         None => Ok(module),
         Some(bound) => Err(DecodeFault::Limit(bound)),
     }

@@ -8,4 +8,4 @@ pub mod ShortestItems
 pub mod ShortestLocals
 pub mod ShortestSections
 pub mod ShortestModule
-pub mod LeftLemmas
+pub mod EventLemmas

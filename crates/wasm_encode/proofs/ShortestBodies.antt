@@ -3,10 +3,11 @@ use Rattle.std.proofs.Common.{◌≡◌, ◌⊎◌, inl, inr, ℕ, List, [], ◌
 use Rattle.std.proofs.lemmas.List.{append-nil}
 use Rattle.wasm_ast.specs.declared.types.ValType.{ValType}
 use Rattle.std.specs.Prelude.{Option}
-use Rattle.wasm_ast.specs.Sequence.{Sequence, Empty, Plain, Block, Loop, If}
+use Rattle.wasm_ast.specs.Sequence.{Sequence, Empty, Plain, Block, If}
 use Rattle.wasm_ast.specs.Spelling.{Joined, Behind}
 use Rattle.wasm_ast.specs.SpelledTypes.{SpellsBlockType}
 use Rattle.wasm_ast.specs.SpelledInstr.{SpellsSequence, SpellsExpr}
+use Rattle.wasm_ast.specs.Opcodes.{block_byte}
 use Rattle.wasm_ast.specs.CanonInstr.{block_type_byte, canon_plain, canon_else, canon_sequence, canon_expr}
 use Rattle.wasm_encode.proofs.ShortestNumbers.{AreBytes, bytes_split, NoLonger}
 use Rattle.wasm_encode.proofs.ShortestVectors.{IsShortest, fixed, joined_shortest, behind_shortest}
@@ -80,11 +81,8 @@ pub sequence_shortest : (s : Sequence) (bytes : List ℕ) → AreBytes bytes →
 sequence_shortest Empty bytes a s = fixed bytes [] s
 sequence_shortest (Plain i rest) bytes a s =
     joined_shortest bytes (canon_plain i) (canon_sequence rest) a s (λ b. plain_shortest s.front i b s.first) (λ b. sequence_shortest rest s.back b s.second)
-sequence_shortest (Block of body rest) bytes a s =
-    typed_shortest 0x02 of bytes (canon_sequence body ++ 0x0B ∷ canon_sequence rest) a s
-    (λ x b j. inner_shortest x (canon_sequence body) (canon_sequence rest) b j (λ y c t. sequence_shortest body y c t) (λ y c t. sequence_shortest rest y c t))
-sequence_shortest (Loop of body rest) bytes a s =
-    typed_shortest 0x03 of bytes (canon_sequence body ++ 0x0B ∷ canon_sequence rest) a s
+sequence_shortest (Block k of body rest) bytes a s =
+    typed_shortest (block_byte k) of bytes (canon_sequence body ++ 0x0B ∷ canon_sequence rest) a s
     (λ x b j. inner_shortest x (canon_sequence body) (canon_sequence rest) b j (λ y c t. sequence_shortest body y c t) (λ y c t. sequence_shortest rest y c t))
 sequence_shortest (If of then otherwise rest) bytes a s =
     typed_shortest 0x04 of bytes (canon_sequence then ++ canon_else otherwise (canon_sequence otherwise) ++ 0x0B ∷ canon_sequence rest) a s

@@ -10,7 +10,7 @@ use Rattle.wasm_ast.specs.Sequence.{Sequence, Empty, Plain, Block, If}
 use Rattle.wasm_ast.specs.Built.{Open, Inside, Else, Built, append, nothing_built, with_plain, with_open, closed}
 use Rattle.wasm_ast.specs.Spelling.{Joined, Behind}
 use Rattle.wasm_ast.specs.SpelledTypes.{SpellsBlockType}
-use Rattle.wasm_ast.specs.Opcodes.{block_byte}
+use Rattle.wasm_ast.specs.Opcodes.{block_byte, construct_byte}
 use Rattle.wasm_ast.specs.SpelledInstr.{SpellsPlain, SpellsSequence, SpellsExpr}
 use Rattle.wasm_ast.specs.OpcodeTables.{opcode_at, SpellsBehind}
 use Rattle.wasm_ast.proofs.OpcodeLaws.{spelled_is_behind, plain_begins}
@@ -22,7 +22,7 @@ use Rattle.wasm_reading.proofs.TypeLaws.{blocktype_exact}
 use Rattle.wasm_reading.proofs.InstrLaws.{immediates_exact}
 use Rattle.wasm_reading.proofs.Sequences.{append-empty, append-append}
 use Rattle.wasm_reading.proofs.Steps.{step_to}
-use Rattle.wasm_reading.proofs.Shapes.{construct_byte, shape_end, shape_else, shape_begin}
+use Rattle.wasm_reading.proofs.Shapes.{shape_end, shape_else, shape_begin}
 use Rattle.wasm_reading.proofs.ExprTakes.{expr_takes}
 
 -- an opening byte and a block type

@@ -12,7 +12,7 @@ use Rattle.wasm_ast.specs.Sequence.{Sequence, Empty, Plain, Block, If}
 use Rattle.wasm_ast.specs.Built.{Open, Inside, Else, Built, append, nothing_built, with_plain, with_open, with_else, with_end, whole, closed, takes_else}
 use Rattle.wasm_ast.specs.Spelling.{Joined, Behind}
 use Rattle.wasm_ast.specs.SpelledTypes.{SpellsBlockType}
-use Rattle.wasm_ast.specs.Opcodes.{block_byte}
+use Rattle.wasm_ast.specs.Opcodes.{block_byte, construct_byte}
 use Rattle.wasm_ast.specs.SpelledInstr.{SpellsPlain, SpellsSequence, SpellsExpr}
 use Rattle.wasm_ast.specs.OpcodeTables.{opcode_at, SpellsBehind}
 use Rattle.wasm_ast.proofs.OpcodeLaws.{behind_is_spelled}
@@ -28,7 +28,7 @@ use Rattle.wasm_reading.proofs.ReadingLaws.{some_is, read_first, chose_some}
 use Rattle.wasm_reading.proofs.TypeLaws.{blocktype_exact}
 use Rattle.wasm_reading.proofs.InstrLaws.{immediates_exact}
 use Rattle.wasm_reading.proofs.Sequences.{append-empty, append-append}
-use Rattle.wasm_reading.proofs.Shapes.{construct_byte, end_byte, else_byte, begin_byte}
+use Rattle.wasm_reading.proofs.Shapes.{end_byte, else_byte, begin_byte}
 
 -- the rest of a sequence of which before was read, and what comes after it
 abbrev Rest : (Sequence → List ℕ → Type 0) → Sequence → List ℕ → Type 0

@@ -5,17 +5,12 @@ use Rattle.wasm_ast.specs.declared.instr.Construct.{Construct}
 use Rattle.wasm_ast.specs.declared.instr.Construct.TheVariants as construct
 use Rattle.wasm_ast.specs.declared.opcode.Opcode.{Opcode}
 use Rattle.wasm_ast.specs.declared.opcode.Opcode.TheVariants as op
-use Rattle.wasm_ast.specs.Opcodes.{block_byte}
+use Rattle.wasm_ast.specs.Opcodes.{construct_byte}
 use Rattle.wasm_ast.specs.OpcodeTables.{opcode_at}
 use Rattle.wasm_ast.proofs.OpcodeLaws.{is_control, control_is}
 use Rattle.wasm_reading.specs.declared.exprs.Shape.{Shape}
 use Rattle.wasm_reading.specs.declared.exprs.Shape.TheVariants as shape
 use Rattle.wasm_reading.specs.ReadExpr.{shape_of}
-
--- the opcode of a block, a loop or an if
-abbrev pub construct_byte : Construct → ℕ
-construct_byte (construct.Block k) = block_byte k
-construct_byte construct.If = 0x04
 
 -- the opcode of a shape, apart from that of an instruction without inner instructions
 abbrev opcode_of : Shape → Opcode

@@ -2,4 +2,3 @@ pub mod StackLemmas
 pub mod LocalLemmas
 pub mod LeftLemmas
 pub mod ModuleLemmas
-pub mod NumberedLemmas

@@ -1,10 +1,12 @@
 use Rattle.std.proofs.Common.{◌≡◌, ◌++◌, length}
-use Rattle.wasm_ast.specs.CanonInstr.{canon_expr}
-use Rattle.wasm_encode.specs.Left.{blocks_left}
+use Rattle.std.specs.List.{flat_map}
+use Rattle.wasm_ast.specs.CanonInstr.{canon_sequence}
+use Rattle.wasm_encode.specs.CanonEvents.{canon_event}
 use Rattle.wasm_encode.proofs.bodies.write_expr.Given as goal
 
-abbrev pub invariant-turns : goal.invariant-turns
-invariant-turns l = l.out.items ++ blocks_left l.lists l.blocks.items ≡ l.initial.out.items ++ canon_expr l.body
+-- what is written with what is to come
+abbrev pub invariant-events : goal.invariant-events
+invariant-events l = l.out.items ++ flat_map canon_event l.walk ≡ l.initial.out.items ++ canon_sequence l.body
 
-abbrev pub decreases-turns : goal.decreases-turns
-decreases-turns l = length (blocks_left l.lists l.blocks.items)
+abbrev pub decreases-events : goal.decreases-events
+decreases-events l = length l.walk
