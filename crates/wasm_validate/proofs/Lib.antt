@@ -1,5 +1,5 @@
 pub mod StackLemmas
 pub mod LocalLemmas
-pub mod LeftLemmas
+pub mod AlgorithmLemmas
 pub mod ModuleLemmas
 pub mod NumberedLemmas
