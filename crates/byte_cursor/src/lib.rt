@@ -10,6 +10,3 @@ mod leb;
 
 pub use cursor::Cursor;
 pub use leb::{CursorFault, signed_has_one_form, unsigned_has_one_form};
-
-#[cfg(test)]
-mod tests;

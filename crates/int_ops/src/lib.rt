@@ -29,6 +29,3 @@ pub use comparison::{
 };
 pub use conversion::{i32_wrap_i64, i64_extend_i32_s, i64_extend_i32_u};
 pub use trap::Cause;
-
-#[cfg(test)]
-mod tests;

@@ -7,6 +7,3 @@ mod requests;
 
 pub use replies::apply;
 pub use requests::{request_laws, request_of};
-
-#[cfg(test)]
-mod tests;

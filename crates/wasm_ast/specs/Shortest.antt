@@ -4,12 +4,16 @@ use Rattle.std.specs.Prelude.{ℕ, zero, suc, ◌+◌, ◌/◌, ◌%◌, nat_lt,
 use Rattle.std.specs.List.{flat_map}
 use Rattle.std.specs.Int.{int_div_euclid, int_rem_euclid}
 
--- seven bits a byte, the lowest first, with at most so many bytes behind the first
-unfoldable pub unsigned_within : ℕ → ℕ → List ℕ
-unsigned_within zero n = n ∷ []
-unsigned_within (suc more) n = if nat_lt n 128 then n ∷ [] else (128 + n % 128) ∷ unsigned_within more (n / 128)
+-- Seven bits a byte, the lowest first, with at most so many bytes behind the first: a small number is one
+-- byte, its lowest bits; of another these stand with 128 more in front of the rest of it.
+unfoldable pub bytes_within : {N : Type 0} → (N → Bool) → (N → ℕ) → (N → N) → ℕ → N → List ℕ
+bytes_within small low rest zero n = low n ∷ []
+bytes_within small low rest (suc more) n = if small n then low n ∷ [] else (128 + low n) ∷ bytes_within small low rest more (rest n)
 
 -- uN
+abbrev pub unsigned_within : ℕ → ℕ → List ℕ
+unsigned_within more n = bytes_within (λ m. nat_lt m 128) (λ m. m % 128) (λ m. m / 128) more n
+
 unfoldable pub shortest_unsigned : ℕ → List ℕ
 shortest_unsigned n = unsigned_within 9 n
 
@@ -21,11 +25,10 @@ is_small z = int_le (pos 0 -ℤ pos 64) z && int_lt z (pos 64)
 abbrev pub low_bits : ℤ → ℕ
 low_bits z = unsigned_abs (int_rem_euclid z (pos 128))
 
-unfoldable pub signed_within : ℕ → ℤ → List ℕ
-signed_within zero z = low_bits z ∷ []
-signed_within (suc more) z = if is_small z then low_bits z ∷ [] else (128 + low_bits z) ∷ signed_within more (int_div_euclid z (pos 128))
-
 -- sN
+abbrev pub signed_within : ℕ → ℤ → List ℕ
+signed_within more z = bytes_within is_small low_bits (λ y. int_div_euclid y (pos 128)) more z
+
 unfoldable pub shortest_signed : ℤ → List ℕ
 shortest_signed z = signed_within 9 z
 

@@ -80,14 +80,14 @@ pub enum NumericOp {
     Convert(ConvertOp),
 }
 
-/// A variable instruction (2.4.3). Its immediate is the index of a local or of a global.
+/// A variable instruction (2.4.3), by its opcode. Its immediate is the index of a local or of a global.
 #[derive(Clone, Copy)]
 pub enum VariableOp {
-    LocalGet,
-    LocalSet,
-    LocalTee,
-    GlobalGet,
-    GlobalSet,
+    LocalGet = 0x20,
+    LocalSet = 0x21,
+    LocalTee = 0x22,
+    GlobalGet = 0x23,
+    GlobalSet = 0x24,
 }
 
 /// What a store or an atomic access moves: the type of the number on the stack, and how much of it
@@ -110,21 +110,21 @@ pub enum Form {
     I64Low32,
 }
 
-/// A load that isn't atomic, by type, bits in memory and sign (2.4.4).
+/// A load that isn't atomic, by type, bits in memory and sign (2.4.4), and by its opcode.
 #[derive(Clone, Copy)]
 pub enum LoadOp {
-    I32,
-    I64,
-    I32From8S,
-    I32From8U,
-    I32From16S,
-    I32From16U,
-    I64From8S,
-    I64From8U,
-    I64From16S,
-    I64From16U,
-    I64From32S,
-    I64From32U,
+    I32 = 0x28,
+    I64 = 0x29,
+    I32From8S = 0x2C,
+    I32From8U = 0x2D,
+    I32From16S = 0x2E,
+    I32From16U = 0x2F,
+    I64From8S = 0x30,
+    I64From8U = 0x31,
+    I64From16S = 0x32,
+    I64From16U = 0x33,
+    I64From32S = 0x34,
+    I64From32U = 0x35,
 }
 
 /// A block or a loop. They differ in what a branch to their label goes to and takes (2.4.5).
@@ -141,15 +141,15 @@ pub enum Construct {
     If,
 }
 
-/// The operator of an atomic read, modify and write.
+/// The operator of an atomic read, modify and write, by the byte behind FE of that of a whole i32.
 #[derive(Clone, Copy)]
 pub enum RmwOp {
-    Add,
-    Sub,
-    And,
-    Or,
-    Xor,
-    Exchange,
+    Add = 0x1E,
+    Sub = 0x25,
+    And = 0x2C,
+    Or = 0x33,
+    Xor = 0x3A,
+    Exchange = 0x41,
 }
 
 /// An instruction on whole numbers that accesses memory at an address with an offset: the plain

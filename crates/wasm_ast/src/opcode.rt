@@ -1,6 +1,8 @@
 // What an opcode begins: WebAssembly Core 1.0, sections 5.4 and A.7, and the threads proposal.
-ghost use Rattle.std.specs.Prelude.{◌≡◌, ◌↔◌, ◌∷◌, List, ℕ};
+ghost use Rattle.std.specs.Prelude.{◌≡◌, ◌↔◌, ◌<◌, ◌∷◌, List, ℕ};
+ghost use Rattle.std.specs.Option.{option_to_list};
 ghost use Rattle.wasm_ast.specs.declared.instr.Instr.{Instr};
+ghost use Rattle.wasm_ast.specs.Opcodes.{compare_place, unary_place, binary_place, numeric_opcode, variable_opcode, load_opcode, store_opcode, form_place, rmw_opcode, access_opcode};
 ghost use Rattle.wasm_ast.specs.SpelledInstr.{SpellsPlain};
 ghost use Rattle.wasm_ast.specs.OpcodeTables.{opcode_at, control, SpellsBehind};
 
@@ -8,6 +10,129 @@ use super::instr::{
     Access, BinaryOp, CompareOp, ConvertOp, Form, LoadOp, NumericOp, RmwOp, UnaryOp, VariableOp,
 };
 use super::types::IntType;
+
+impl CompareOp {
+    /// The place among the comparisons of its type.
+    fn place(self) -> u8
+        ensures place { result ≡ compare_place self }
+        ensures below { result < 10 }
+    {
+        self as u8
+    }
+}
+
+impl UnaryOp {
+    /// The place among the operators on one number of its type.
+    fn place(self) -> u8
+        ensures place { result ≡ unary_place self }
+        ensures below { result < 3 }
+    {
+        self as u8
+    }
+}
+
+impl BinaryOp {
+    /// The place among the operators on two numbers of its type.
+    fn place(self) -> u8
+        ensures place { result ≡ binary_place self }
+        ensures below { result < 15 }
+    {
+        self as u8
+    }
+}
+
+impl NumericOp {
+    /// The opcode (5.4.5).
+    pub fn opcode(self) -> u8
+        ensures { result ≡ numeric_opcode self }
+    {
+        match self {
+            NumericOp::Eqz(IntType::I32) => 0x45,
+            NumericOp::Eqz(IntType::I64) => 0x50,
+            NumericOp::Compare(IntType::I32, op) => 0x46 + op.place(),
+            NumericOp::Compare(IntType::I64, op) => 0x51 + op.place(),
+            NumericOp::Unary(IntType::I32, op) => 0x67 + op.place(),
+            NumericOp::Unary(IntType::I64, op) => 0x79 + op.place(),
+            NumericOp::Binary(IntType::I32, op) => 0x6A + op.place(),
+            NumericOp::Binary(IntType::I64, op) => 0x7C + op.place(),
+            NumericOp::Convert(ConvertOp::Wrap) => 0xA7,
+            NumericOp::Convert(ConvertOp::ExtendS) => 0xAC,
+            NumericOp::Convert(ConvertOp::ExtendU) => 0xAD,
+        }
+    }
+}
+
+impl VariableOp {
+    /// The opcode (5.4.3).
+    pub fn opcode(self) -> u8
+        ensures { result ≡ variable_opcode self }
+    {
+        self as u8
+    }
+}
+
+impl LoadOp {
+    /// The opcode (5.4.4).
+    fn opcode(self) -> u8
+        ensures { result ≡ load_opcode self }
+    {
+        self as u8
+    }
+}
+
+impl RmwOp {
+    /// The byte behind FE of that of a whole i32.
+    fn opcode(self) -> u8
+        ensures opcode { result ≡ rmw_opcode self }
+        ensures below { result < 0x48 }
+    {
+        self as u8
+    }
+}
+
+impl Form {
+    /// The place among the seven forms of an atomic operator.
+    fn place(self) -> u8
+        ensures place { result ≡ form_place self }
+        ensures below { result < 7 }
+    {
+        self as u8
+    }
+
+    /// The opcode of a store that isn't atomic (5.4.4).
+    fn store_opcode(self) -> u8
+        ensures { result ≡ store_opcode self }
+    {
+        match self {
+            Form::I32 => 0x36,
+            Form::I64 => 0x37,
+            Form::I32Low8 => 0x3A,
+            Form::I32Low16 => 0x3B,
+            Form::I64Low8 => 0x3C,
+            Form::I64Low16 => 0x3D,
+            Form::I64Low32 => 0x3E,
+        }
+    }
+}
+
+impl Access {
+    /// The opcode (5.4.4, and the threads proposal): a byte, and the one behind it where it is FE.
+    pub fn opcode(self) -> (u8, Option<u8>)
+        ensures { result.0 ∷ option_to_list result.1 ≡ access_opcode self }
+    {
+        match self {
+            Access::Load(op) => (op.opcode(), None),
+            Access::Store(of) => (of.store_opcode(), None),
+            Access::Notify => (0xFE, Some(0x00)),
+            Access::Wait(IntType::I32) => (0xFE, Some(0x01)),
+            Access::Wait(IntType::I64) => (0xFE, Some(0x02)),
+            Access::AtomicLoad(of) => (0xFE, Some(0x10 + of.place())),
+            Access::AtomicStore(of) => (0xFE, Some(0x17 + of.place())),
+            Access::AtomicRmw(op, of) => (0xFE, Some(op.opcode() + of.place())),
+            Access::AtomicCompareExchange(of) => (0xFE, Some(0x48 + of.place())),
+        }
+    }
+}
 
 /// What the first byte of an instruction begins. The immediates behind it are named in 5.4.
 #[derive(Clone, Copy)]

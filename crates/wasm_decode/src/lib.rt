@@ -17,8 +17,3 @@ pub use decoding::decode;
 pub use fault::{Bound, DecodeFault, ThinFault};
 pub use read::{one_thin_module, read_thin};
 pub use thin::{Thin, ThinImport, ThinInstr, ThinMemory, ThinSegment};
-
-#[cfg(test)]
-mod decode_tests;
-#[cfg(test)]
-mod tests;

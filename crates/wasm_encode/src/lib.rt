@@ -17,8 +17,6 @@ mod instrs;
 mod modules;
 mod numbers;
 mod parts;
-#[cfg(test)]
-mod tests;
 mod types;
 
 pub use modules::encode;

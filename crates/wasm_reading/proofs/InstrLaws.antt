@@ -1,5 +1,5 @@
 -- Reading instructions takes just what is spelled so.
-use Rattle.std.proofs.Common.{◌≡◌, ℕ, List, [], ◌∷◌, ◌++◌, Option, Some, None, refl, sym, ◌∙◌, ap}
+use Rattle.std.proofs.Common.{◌≡◌, ℕ, List, [], ◌∷◌, ◌++◌, Some, refl, sym, ◌∙◌, ap}
 use Rattle.byte_cursor.specs.Integers.{BeginsWith}
 use Rattle.wasm_ast.specs.declared.instr.Instr.{Instr}
 use Rattle.wasm_ast.specs.declared.opcode.Opcode.{Opcode}
@@ -7,9 +7,9 @@ use Rattle.wasm_ast.specs.declared.opcode.Opcode.TheVariants as op
 use Rattle.wasm_ast.specs.declared.opcode.AtomicOpcode.{AtomicOpcode}
 use Rattle.wasm_ast.specs.declared.opcode.AtomicOpcode.TheVariants as atomic
 use Rattle.wasm_ast.specs.Spelling.{Behind}
-use Rattle.wasm_ast.specs.Immediates.{Immediates, Nothing, Index, Labels, IndexAndZero, Argument, Zero, Signed32, Signed64, Raw, Never, Value, Spells}
+use Rattle.wasm_ast.specs.Immediates.{Immediates, Nothing, Index, Labels, IndexAndZero, Argument, Zero, Signed32, Signed64, Raw, Never, Spells}
 use Rattle.wasm_ast.specs.OpcodeTables.{atomic_at, Plan, plan_of, atomic_plan_of, SpellsPlan, SpellsAtomic, SpellsBehind}
-use Rattle.wasm_reading.specs.Reading.{mapped, IsExact}
+use Rattle.wasm_reading.specs.Reading.{IsExact}
 use Rattle.wasm_reading.specs.ReadInstr.{nothing_at, zero_at, value_at, plan_at, atomic_immediates_at, atomic_instr_at, immediates_at}
 use Rattle.wasm_reading.proofs.ReadingLaws.{some_is, mapped_exact, pair_exact, behind_exact, u32_exact, i32_exact, i64_exact, vec_exact, floats_exact, exact_as}
 

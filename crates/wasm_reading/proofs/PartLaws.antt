@@ -1,5 +1,5 @@
 -- Reading the parts of a module takes just what is spelled so.
-use Rattle.std.proofs.Common.{◌≡◌, inl, inr, ℕ, zero, suc, ◌+◌, ◌<◌, ◌^◌, ◌==◌, nat_lt, true, cond, List, [], ◌∷◌, ◌++◌, length, Option, Some, None, refl, sym, ◌∙◌, ap, subst, arith, eqb-true, ltb-true, lt-ltb}
+use Rattle.std.proofs.Common.{◌≡◌, ℕ, zero, suc, ◌+◌, ◌<◌, ◌^◌, nat_lt, true, cond, List, [], ◌∷◌, ◌++◌, length, Some, None, refl, sym, ◌∙◌, ap, subst, arith, ltb-true, lt-ltb}
 use Rattle.byte_cursor.specs.Integers.{BeginsWith}
 use Rattle.wasm_ast.specs.declared.locals.LocalGroup.{LocalGroup}
 use Rattle.wasm_ast.specs.declared.module.ImportKind.{ImportKind}
@@ -10,54 +10,27 @@ use Rattle.wasm_ast.specs.Locals.{added, total}
 use Rattle.wasm_ast.specs.Spelling.{Joined, SpellsU32, SpellsEach}
 use Rattle.wasm_ast.specs.SpelledModule.{SpellsImportKind, SpellsImport, SpellsGlobal, SpellsExportKind, SpellsExport, SpellsElement, SpellsSegment, SpellsGroup, SpellsLocals, SpellsCode, gathered}
 use Rattle.wasm_ast.specs.SpelledInstr.{SpellsExpr}
-use Rattle.wasm_reading.specs.Reading.{and_then, mapped, u32_at, IsExact}
-use Rattle.wasm_reading.specs.ReadTypes.{globaltype_at}
+use Rattle.wasm_reading.specs.Reading.{u32_at, IsExact}
 use Rattle.wasm_reading.specs.ReadModule.{import_kind_at, import_at, global_at, export_kind_at, export_at, element_at, segment_at, group_at, groups_at, locals_at, code_at}
-use Rattle.wasm_reading.proofs.ReadingLaws.{chosen, chose_some, some_is, read_first, begins_joined, joined_again, mapped_exact, pair_exact, u32_exact, vec_exact, bytes_exact, name_exact, sized_exact}
+use Rattle.wasm_reading.proofs.ReadingLaws.{chose_some, some_is, read_first, begins_joined, joined_again, mapped_exact, pair_exact, u32_exact, vec_exact, bytes_exact, name_exact, sized_exact, no_tag, tag_takes, tagged_takes, tag_again}
 use Rattle.wasm_reading.proofs.TypeLaws.{valtype_exact, memory_exact, table_exact, globaltype_exact}
 use Rattle.wasm_reading.proofs.ExprAgain.{expr_exact}
 
--- behind a byte, what is read as something else
-kind_takes : {X Y : Type 0} {S : List ℕ → X → Type 0} {r : List ℕ → Option (X × List ℕ)} (T : List ℕ → Y → Type 0) (f : X → Y) (b : ℕ) → IsExact S r →
-    ((front : List ℕ) (x : X) → S front x → T (b ∷ front) (f x)) → (bytes : List ℕ) (y : Y) (rest : List ℕ) → mapped f r bytes ≡ Some (y, rest) → BeginsWith T (b ∷ bytes) y rest
-kind_takes {X} {Y} {S} {r} T f b e to bytes y rest h =
-    let u = read_first (r bytes) (λ x rest. Some (f x, rest)) (y, rest) h in
-    let t = e.takes bytes u.0 u.1 u.2 in
-    subst (λ (z : Y × List ℕ). BeginsWith T (b ∷ bytes) z.0 z.1) (some_is _ _ u.3) (b ∷ t.0, to t.0 u.0 t.1, ap (λ m. b ∷ m) t.2)
-
-kind_again : {X Y : Type 0} {S : List ℕ → X → Type 0} {r : List ℕ → Option (X × List ℕ)} (f : X → Y) → IsExact S r → (front rest : List ℕ) (x : X) → S front x → mapped f r (front ++ rest) ≡ Some (f x, rest)
-kind_again {X} {Y} {S} {r} f e front rest x h = ap (λ o. and_then o (λ x rest. Some (f x, rest))) (e.again front rest x h)
-
-import_kind_takes : (bytes : List ℕ) (k : ImportKind) (rest : List ℕ) → import_kind_at bytes ≡ Some (k, rest) → BeginsWith SpellsImportKind bytes k rest
-import_kind_takes [] k rest h = cc
-import_kind_takes (b ∷ bytes) k rest h =
-    elim (chosen (b == 0x00) _ _ (Some (k, rest)) h) [
-      | inl w ↦ kind_takes SpellsImportKind (λ of. imported.Func of) b u32_exact (λ front x s. (eqb-true b 0x00 w.0, s)) bytes k rest w.1
-      | inr w ↦
-          elim (chosen (b == 0x01) _ _ (Some (k, rest)) w.1) [
-            | inl v ↦ kind_takes SpellsImportKind (λ l. imported.Table l) b table_exact (λ front x s. (eqb-true b 0x01 v.0, s)) bytes k rest v.1
-            | inr v ↦
-                elim (chosen (b == 0x02) _ _ (Some (k, rest)) v.1) [
-                  | inl u ↦ kind_takes SpellsImportKind (λ l. imported.Memory l) b memory_exact (λ front x s. (eqb-true b 0x02 u.0, s)) bytes k rest u.1
-                  | inr u ↦
-                      let t = chose_some (b == 0x03) (mapped (λ g. imported.Global g.0 g.1) globaltype_at bytes) (k, rest) u.1 in
-                      kind_takes SpellsImportKind (λ g. imported.Global g.0 g.1) b globaltype_exact (λ front x s. (eqb-true b 0x03 t.0, s)) bytes k rest t.1
-                ]
-          ]
-    ]
-
 import_kind_again : (front rest : List ℕ) (k : ImportKind) → SpellsImportKind front k → import_kind_at (front ++ rest) ≡ Some (k, rest)
-import_kind_again [] rest (imported.Func of) h = absurd h
-import_kind_again (b ∷ front) rest (imported.Func of) h = subst (λ c. import_kind_at (c ∷ front ++ rest) ≡ Some (imported.Func of, rest)) (sym h.0) (kind_again (λ of. imported.Func of) u32_exact front rest of h.1)
-import_kind_again [] rest (imported.Table l) h = absurd h
-import_kind_again (b ∷ front) rest (imported.Table l) h = subst (λ c. import_kind_at (c ∷ front ++ rest) ≡ Some (imported.Table l, rest)) (sym h.0) (kind_again (λ l. imported.Table l) table_exact front rest l h.1)
-import_kind_again [] rest (imported.Memory l) h = absurd h
-import_kind_again (b ∷ front) rest (imported.Memory l) h = subst (λ c. import_kind_at (c ∷ front ++ rest) ≡ Some (imported.Memory l, rest)) (sym h.0) (kind_again (λ l. imported.Memory l) memory_exact front rest l h.1)
-import_kind_again [] rest (imported.Global of mutable) h = absurd h
-import_kind_again (b ∷ front) rest (imported.Global of mutable) h = subst (λ c. import_kind_at (c ∷ front ++ rest) ≡ Some (imported.Global of mutable, rest)) (sym h.0) (kind_again (λ g. imported.Global g.0 g.1) globaltype_exact front rest (of, mutable) h.1)
+import_kind_again front rest (imported.Func of) h = tag_again import_kind_at 0x00 (λ of. imported.Func of) u32_exact (λ bytes. refl) front rest of h
+import_kind_again front rest (imported.Table l) h = tag_again import_kind_at 0x01 (λ l. imported.Table l) table_exact (λ bytes. refl) front rest l h
+import_kind_again front rest (imported.Memory l) h = tag_again import_kind_at 0x02 (λ l. imported.Memory l) memory_exact (λ bytes. refl) front rest l h
+import_kind_again front rest (imported.Global of mutable) h = tag_again import_kind_at 0x03 (λ g. imported.Global g.0 g.1) globaltype_exact (λ bytes. refl) front rest (of, mutable) h
 
 import_kind_exact : IsExact SpellsImportKind import_kind_at
-import_kind_exact = record { takes = import_kind_takes; again = import_kind_again }
+import_kind_exact = record {
+  takes = tagged_takes
+      (tag_takes 0x00 (λ of. imported.Func of) u32_exact (λ front x s. (refl, s))
+      (tag_takes 0x01 (λ l. imported.Table l) table_exact (λ front x s. (refl, s))
+      (tag_takes 0x02 (λ l. imported.Memory l) memory_exact (λ front x s. (refl, s))
+      (tag_takes 0x03 (λ g. imported.Global g.0 g.1) globaltype_exact (λ front x s. (refl, s)) (no_tag SpellsImportKind)))));
+  again = import_kind_again;
+}
 
 pub import_exact : IsExact SpellsImport import_at
 import_exact = mapped_exact SpellsImport (λ i. record { «module» = i.0; name = i.1.0; kind = i.1.1 }) (pair_exact name_exact (pair_exact name_exact import_kind_exact))
@@ -67,36 +40,20 @@ pub global_exact : IsExact SpellsGlobal global_at
 global_exact = mapped_exact SpellsGlobal (λ g. record { of = g.0.0; mutable = g.0.1; init = g.1 }) (pair_exact globaltype_exact expr_exact)
     (λ bytes p s. s) (λ bytes g s. (((g.of, g.mutable), g.init), s, refl))
 
-export_kind_takes : (bytes : List ℕ) (k : ExportKind) (rest : List ℕ) → export_kind_at bytes ≡ Some (k, rest) → BeginsWith SpellsExportKind bytes k rest
-export_kind_takes [] k rest h = cc
-export_kind_takes (b ∷ bytes) k rest h =
-    elim (chosen (b == 0x00) _ _ (Some (k, rest)) h) [
-      | inl w ↦ kind_takes SpellsExportKind (λ i. exported.Func i) b u32_exact (λ front x s. (eqb-true b 0x00 w.0, s)) bytes k rest w.1
-      | inr w ↦
-          elim (chosen (b == 0x01) _ _ (Some (k, rest)) w.1) [
-            | inl v ↦ kind_takes SpellsExportKind (λ i. exported.Table i) b u32_exact (λ front x s. (eqb-true b 0x01 v.0, s)) bytes k rest v.1
-            | inr v ↦
-                elim (chosen (b == 0x02) _ _ (Some (k, rest)) v.1) [
-                  | inl u ↦ kind_takes SpellsExportKind (λ i. exported.Memory i) b u32_exact (λ front x s. (eqb-true b 0x02 u.0, s)) bytes k rest u.1
-                  | inr u ↦
-                      let t = chose_some (b == 0x03) (mapped (λ i. exported.Global i) u32_at bytes) (k, rest) u.1 in
-                      kind_takes SpellsExportKind (λ i. exported.Global i) b u32_exact (λ front x s. (eqb-true b 0x03 t.0, s)) bytes k rest t.1
-                ]
-          ]
-    ]
-
 export_kind_again : (front rest : List ℕ) (k : ExportKind) → SpellsExportKind front k → export_kind_at (front ++ rest) ≡ Some (k, rest)
-export_kind_again [] rest (exported.Func i) h = absurd h
-export_kind_again (b ∷ front) rest (exported.Func i) h = subst (λ c. export_kind_at (c ∷ front ++ rest) ≡ Some (exported.Func i, rest)) (sym h.0) (kind_again (λ i. exported.Func i) u32_exact front rest i h.1)
-export_kind_again [] rest (exported.Table i) h = absurd h
-export_kind_again (b ∷ front) rest (exported.Table i) h = subst (λ c. export_kind_at (c ∷ front ++ rest) ≡ Some (exported.Table i, rest)) (sym h.0) (kind_again (λ i. exported.Table i) u32_exact front rest i h.1)
-export_kind_again [] rest (exported.Memory i) h = absurd h
-export_kind_again (b ∷ front) rest (exported.Memory i) h = subst (λ c. export_kind_at (c ∷ front ++ rest) ≡ Some (exported.Memory i, rest)) (sym h.0) (kind_again (λ i. exported.Memory i) u32_exact front rest i h.1)
-export_kind_again [] rest (exported.Global i) h = absurd h
-export_kind_again (b ∷ front) rest (exported.Global i) h = subst (λ c. export_kind_at (c ∷ front ++ rest) ≡ Some (exported.Global i, rest)) (sym h.0) (kind_again (λ i. exported.Global i) u32_exact front rest i h.1)
+export_kind_again front rest (exported.Func i) h = tag_again export_kind_at 0x00 (λ i. exported.Func i) u32_exact (λ bytes. refl) front rest i h
+export_kind_again front rest (exported.Table i) h = tag_again export_kind_at 0x01 (λ i. exported.Table i) u32_exact (λ bytes. refl) front rest i h
+export_kind_again front rest (exported.Memory i) h = tag_again export_kind_at 0x02 (λ i. exported.Memory i) u32_exact (λ bytes. refl) front rest i h
+export_kind_again front rest (exported.Global i) h = tag_again export_kind_at 0x03 (λ i. exported.Global i) u32_exact (λ bytes. refl) front rest i h
 
 export_kind_exact : IsExact SpellsExportKind export_kind_at
-export_kind_exact = record { takes = export_kind_takes; again = export_kind_again }
+export_kind_exact = record {
+  takes = tagged_takes
+      (tag_takes 0x00 (λ i. exported.Func i) u32_exact (λ front x s. (refl, s))
+      (tag_takes 0x01 (λ i. exported.Table i) u32_exact (λ front x s. (refl, s))
+      (tag_takes 0x02 (λ i. exported.Memory i) u32_exact (λ front x s. (refl, s)) (tag_takes 0x03 (λ i. exported.Global i) u32_exact (λ front x s. (refl, s)) (no_tag SpellsExportKind)))));
+  again = export_kind_again;
+}
 
 pub export_exact : IsExact SpellsExport export_at
 export_exact = mapped_exact SpellsExport (λ e. record { name = e.0; kind = e.1 }) (pair_exact name_exact export_kind_exact)

@@ -11,7 +11,7 @@ use Rattle.byte_cursor.specs.Integers.{BeginsWith, SpellsSigned, unsigned_last, 
 use Rattle.byte_cursor.specs.Reading.{unsigned_at, signed_at}
 use Rattle.byte_cursor.proofs.Laws.{number_takes, number_again}
 use Rattle.wasm_ast.specs.Spelling.{Joined, Behind, SpellsU32, SpellsEach, SpellsVec, SpellsBytes, SpellsName, Sized}
-use Rattle.wasm_reading.specs.Reading.{and_then, mapped, pair_at, behind_at, u32_at, i32_at, i64_at, each_at, vec_at, span_at, bytes_at, name_at, if_ended, all_of, with_rest, byte_as, sized_at, IsExact}
+use Rattle.wasm_reading.specs.Reading.{and_then, mapped, pair_at, next_at, behind_at, u32_at, i32_at, i64_at, each_at, vec_at, span_at, bytes_at, name_at, if_ended, all_of, with_rest, byte_as, sized_at, IsExact}
 
 -- a test that chose
 pub chosen : {A : Type 0} (b : Bool) (x y z : A) → cond b x y ≡ z → ((b ≡ true) × (x ≡ z)) ⊎ ((b ≡ false) × (y ≡ z))
@@ -41,6 +41,10 @@ begins_joined P Q bytes mid rest a b p q = (
   p.2 ∙ ap (λ m. p.0 ++ m) q.2 ∙ sym (append_assoc p.0 q.0 rest),
 )
 
+-- the same in front of the same rest
+begins_as : {X : Type 0} (S : List ℕ → X → Type 0) {bytes mid rest : List ℕ} {x y : X} → BeginsWith S bytes x mid → ◌≡◌ {A = Option (X × List ℕ)} (Some (x, mid)) (Some (y, rest)) → BeginsWith S bytes y rest
+begins_as {X} S {bytes} b e = subst (λ (z : X × List ℕ). BeginsWith S bytes z.0 z.1) (some_is _ _ e) b
+
 -- reading two parts of bytes that are joined of them
 pub joined_again : {X Y : Type 0} (P Q : List ℕ → Type 0) (bytes rest : List ℕ) (r : List ℕ → Option (X × List ℕ)) (k : X → List ℕ → Option Y) (x : X) (y : Y) →
     Joined P Q bytes → ((front more : List ℕ) → P front → r (front ++ more) ≡ Some (x, more)) →
@@ -59,9 +63,7 @@ mapped_exact {X} {Y} {S} {r} T f e to from = record {
   takes = λ bytes y rest h.
       let p = read_first (r bytes) (λ x rest. Some (f x, rest)) (y, rest) h in
       let t = e.takes bytes p.0 p.1 p.2 in
-      let same : f p.0 ≡ y = ap (λ z. z.0) (some_is _ _ p.3) in
-      let ends : p.1 ≡ rest = ap (λ z. z.1) (some_is _ _ p.3) in
-      (t.0, subst (λ z. T t.0 z) same (to t.0 p.0 t.1), t.2 ∙ ap (λ m. t.0 ++ m) ends);
+      begins_as T (t.0, to t.0 p.0 t.1, t.2) p.3;
   again = λ front rest y h.
       let p = from front y h in
       ap (λ o. and_then o (λ x rest. Some (f x, rest))) (e.again front rest p.0 p.1) ∙ ap (λ z. Some (z, rest)) p.2;
@@ -74,10 +76,7 @@ pair_exact {X} {Y} {A} {B} {r} {s} e f = record {
   takes = λ bytes p rest h.
       let u = read_first (r bytes) (λ x mid. and_then (s mid) (λ y rest. Some ((x, y), rest))) (p, rest) h in
       let v = read_first (s u.1) (λ y rest. Some ((u.0, y), rest)) (p, rest) u.3 in
-      let is : (u.0, v.0) ≡ p = ap (λ z. z.0) (some_is _ _ v.3) in
-      let ends : v.1 ≡ rest = ap (λ z. z.1) (some_is _ _ v.3) in
-      let b = begins_joined A B bytes u.1 v.1 u.0 v.0 (e.takes bytes u.0 u.1 u.2) (f.takes u.1 v.0 v.1 v.2) in
-      (b.0, subst (λ (z : X × Y). Joined (λ a. A a z.0) (λ c. B c z.1) b.0) is b.1, b.2 ∙ ap (λ m. b.0 ++ m) ends);
+      begins_as (λ bytes (p : X × Y). Joined (λ a. A a p.0) (λ b. B b p.1) bytes) (begins_joined A B bytes u.1 v.1 u.0 v.0 (e.takes bytes u.0 u.1 u.2) (f.takes u.1 v.0 v.1 v.2)) v.3;
   again = λ front rest p h.
       joined_again (λ a. A a p.0) (λ b. B b p.1) front rest r (λ x mid. and_then (s mid) (λ y rest. Some ((x, y), rest))) p.0 (p, rest) h
       (λ g more q. e.again g more p.0 q)
@@ -97,6 +96,39 @@ behind_exact {X} {S} {r} b e = record { takes = takes; again = again } where
   again : (front rest : List ℕ) (x : X) → Behind b (λ a. S a x) front → behind_at b r (front ++ rest) ≡ Some (x, rest)
   again [] rest x h = absurd h
   again (c ∷ front) rest x h = ap (λ t. cond t (r (front ++ rest)) None) (eq-eqb c b h.0) ∙ e.again front rest x h.1
+
+-- ---- a byte that says what is behind it
+
+-- what is read behind each byte is spelled so with the byte
+abbrev pub AreSpelled : {Y : Type 0} → (List ℕ → Y → Type 0) → (ℕ → List ℕ → Option (Y × List ℕ)) → Type 0
+AreSpelled {Y} T g = (b : ℕ) (bytes : List ℕ) (y : Y) (rest : List ℕ) → g b bytes ≡ Some (y, rest) → BeginsWith T (b ∷ bytes) y rest
+
+pub no_tag : {Y : Type 0} (T : List ℕ → Y → Type 0) → AreSpelled T (λ b bytes. None)
+no_tag T b bytes y rest h = cc
+
+pub tag_takes : {X Y : Type 0} {S : List ℕ → X → Type 0} {r : List ℕ → Option (X × List ℕ)} {T : List ℕ → Y → Type 0} {g : ℕ → List ℕ → Option (Y × List ℕ)} (c : ℕ) (f : X → Y) →
+    IsExact S r → ((front : List ℕ) (x : X) → S front x → T (c ∷ front) (f x)) → AreSpelled T g → AreSpelled T (λ b bytes. cond (b == c) (mapped f r bytes) (g b bytes))
+tag_takes {X} {Y} {S} {r} {T} {g} c f e to others b bytes y rest h =
+    elim (chosen (b == c) _ _ (Some (y, rest)) h) [
+      | inl w ↦
+          let u = read_first (r bytes) (λ x rest. Some (f x, rest)) (y, rest) w.1 in
+          let t = e.takes bytes u.0 u.1 u.2 in
+          begins_as T (b ∷ t.0, subst (λ d. T (d ∷ t.0) (f u.0)) (sym (eqb-true b c w.0)) (to t.0 u.0 t.1), ap (λ m. b ∷ m) t.2) u.3
+      | inr w ↦ others b bytes y rest w.1
+    ]
+
+pub tagged_takes : {Y : Type 0} {T : List ℕ → Y → Type 0} {g : ℕ → List ℕ → Option (Y × List ℕ)} → AreSpelled T g → (bytes : List ℕ) (y : Y) (rest : List ℕ) → and_then (next_at bytes) g ≡ Some (y, rest) → BeginsWith T bytes y rest
+tagged_takes are [] y rest h = cc
+tagged_takes are (b ∷ bytes) y rest h = are b bytes y rest h
+
+-- what is spelled with a byte in front is read so
+pub tag_again : {X Y : Type 0} {S : List ℕ → X → Type 0} {r : List ℕ → Option (X × List ℕ)} (q : List ℕ → Option (Y × List ℕ)) (c : ℕ) (f : X → Y) →
+    IsExact S r → ((bytes : List ℕ) → q (c ∷ bytes) ≡ mapped f r bytes) → (front rest : List ℕ) (x : X) → Behind c (λ a. S a x) front → q (front ++ rest) ≡ Some (f x, rest)
+tag_again q c f e is [] rest x h = absurd h
+tag_again q c f e is (b ∷ front) rest x h =
+    ap (λ d. q (d ∷ (front ++ rest))) h.0 ∙ is (front ++ rest) ∙ ap (λ o. and_then o (λ x rest. Some (f x, rest))) (e.again front rest x h.1)
+
+-- ---- numbers, vectors, bytes and names
 
 ok_of : {X : Type 0} (r : Result X CursorFault) (x : X) → result_ok r ≡ Some x → r ≡ Ok x
 ok_of (Ok y) x h = ap (λ z. Ok z) (some_is y x h)
@@ -158,7 +190,7 @@ module _ {X : Type 0} {S : List ℕ → X → Type 0} {r : List ℕ → Option (
 span_takes : (n : ℕ) (bytes xs rest : List ℕ) → span_at n bytes ≡ Some (xs, rest) → (length xs ≡ n) × (bytes ≡ xs ++ rest)
 span_takes n bytes xs rest h =
     elim (chosen (nat_lt (length bytes) n) None (Some (take n bytes, drop n bytes)) (Some (xs, rest)) h) [
-      | inl w ↦ let no : None ≡ Some (xs, rest) = w.1 in cc
+      | inl w ↦ let no : ◌≡◌ {A = Option (List ℕ × List ℕ)} None (Some (xs, rest)) = w.1 in cc
       | inr w ↦
           subst (λ (z : List ℕ × List ℕ). (length z.0 ≡ n) × (bytes ≡ z.0 ++ z.1)) (some_is _ _ w.1)
           (length-take-le n bytes (ltb-false (length bytes) n w.0), sym (take-append-drop n bytes))

@@ -7,7 +7,7 @@ use Rattle.wasm_ast.specs.declared.opcode.AtomicOpcode.{AtomicOpcode}
 use Rattle.wasm_ast.specs.declared.opcode.AtomicOpcode.TheVariants as atomic
 use Rattle.wasm_ast.specs.Sequence.{Sequence}
 use Rattle.wasm_ast.specs.Built.{Built, NamesNone, takes_else, with_else}
-use Rattle.wasm_ast.specs.OpcodeTables.{opcode_at, atomic_at, plan_of, atomic_plan_of, SpellsPlan, SpellsBehind}
+use Rattle.wasm_ast.specs.OpcodeTables.{opcode_at, atomic_at, atomic_plan_of, SpellsPlan, SpellsBehind}
 use Rattle.wasm_reading.specs.declared.exprs.Shape.{Shape}
 use Rattle.wasm_reading.specs.declared.exprs.Shape.TheVariants as shape
 use Rattle.wasm_reading.specs.declared.exprs.Step.{Step}

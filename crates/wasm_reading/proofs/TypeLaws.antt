@@ -1,15 +1,14 @@
 -- Reading types takes just what is spelled so.
-use Rattle.std.proofs.Common.{◌≡◌, inl, inr, ℕ, ◌==◌, Bool, true, false, cond, List, [], ◌∷◌, ◌++◌, Option, Some, None, refl, sym, ◌∙◌, ap, subst, eqb-true}
+use Rattle.std.proofs.Common.{◌≡◌, inl, inr, ℕ, ◌==◌, Bool, true, false, cond, List, [], ◌∷◌, ◌++◌, Option, Some, None, refl, sym, ◌∙◌, ap, eqb-true}
 use Rattle.std.specs.Option.{option_map}
-use Rattle.byte_cursor.specs.Integers.{BeginsWith}
 use Rattle.wasm_ast.specs.declared.types.ValType.{ValType}
 use Rattle.wasm_ast.specs.declared.types.ValType.TheVariants.{I32, I64, F32, F64}
 use Rattle.wasm_ast.specs.declared.types.Limits.{Limits}
 use Rattle.wasm_ast.specs.Spelling.{Joined, Behind, SpellsU32}
 use Rattle.wasm_ast.specs.SpelledTypes.{valtype_byte, SpellsValType, SpellsBlockType, SpellsFuncType, LimitsForm, SpellsMemory, SpellsTable, SpellsGlobalType}
-use Rattle.wasm_reading.specs.Reading.{and_then, mapped, pair_at, u32_at, IsExact}
+use Rattle.wasm_reading.specs.Reading.{pair_at, u32_at, IsExact}
 use Rattle.wasm_reading.specs.ReadTypes.{valtype_of, valtype_at, blocktype_of, blocktype_at, functype_at, one_limit, two_limits, memory_at, unshared_at, table_at, flag_of, globaltype_at}
-use Rattle.wasm_reading.proofs.ReadingLaws.{chosen, chose_some, some_is, read_first, mapped_exact, pair_exact, behind_exact, u32_exact, vec_exact, byte_exact, exact_as}
+use Rattle.wasm_reading.proofs.ReadingLaws.{chosen, chose_some, some_is, mapped_exact, pair_exact, behind_exact, u32_exact, vec_exact, byte_exact, exact_as, no_tag, tag_takes, tagged_takes, tag_again}
 
 valtype_of_is : (b : ℕ) (x : ValType) → valtype_of b ≡ Some x → b ≡ valtype_byte x
 valtype_of_is b x h =
@@ -70,87 +69,38 @@ pub functype_exact : IsExact SpellsFuncType functype_at
 functype_exact = mapped_exact SpellsFuncType (λ f. record { params = f.0; results = f.1 }) (behind_exact 0x60 (pair_exact (vec_exact valtype_exact) (vec_exact valtype_exact)))
     (λ bytes x s. s) (λ bytes f s. ((f.params, f.results), s, refl))
 
--- limits behind their flag
+-- limits behind their byte
 abbrev Two : List ℕ → ℕ × ℕ → Type 0
 Two bytes l = Joined (λ a. SpellsU32 a l.0) (λ b. SpellsU32 b l.1) bytes
 
 two_exact : IsExact Two (pair_at u32_at u32_at)
 two_exact = pair_exact u32_exact u32_exact
 
-one_takes : (b : ℕ) (bytes : List ℕ) (l : Limits) (rest : List ℕ) → b ≡ 0x00 → mapped one_limit u32_at bytes ≡ Some (l, rest) → BeginsWith SpellsMemory (b ∷ bytes) l rest × (l.shared ≡ false)
-one_takes b bytes l rest e h =
-    let u = read_first (u32_at bytes) (λ n rest. Some (one_limit n, rest)) (l, rest) h in
-    let t = u32_exact.takes bytes u.0 u.1 u.2 in
-    subst (λ (z : Limits × List ℕ). BeginsWith SpellsMemory (b ∷ bytes) z.0 z.1 × (z.0.shared ≡ false)) (some_is _ _ u.3) ((b ∷ t.0, (e, t.1), ap (λ m. b ∷ m) t.2), refl)
-
-two_takes : (shared : Bool) (b : ℕ) (bytes : List ℕ) (l : Limits) (rest : List ℕ) → b ≡ cond shared 0x03 0x01 → mapped (two_limits shared) (pair_at u32_at u32_at) bytes ≡ Some (l, rest) →
-    BeginsWith SpellsMemory (b ∷ bytes) l rest × (l.shared ≡ shared)
-two_takes true b bytes l rest e h =
-    let u = read_first (pair_at u32_at u32_at bytes) (λ p rest. Some (two_limits true p, rest)) (l, rest) h in
-    let t = two_exact.takes bytes u.0 u.1 u.2 in
-    subst (λ (z : Limits × List ℕ). BeginsWith SpellsMemory (b ∷ bytes) z.0 z.1 × (z.0.shared ≡ true)) (some_is _ _ u.3) ((b ∷ t.0, (e, t.1), ap (λ m. b ∷ m) t.2), refl)
-two_takes false b bytes l rest e h =
-    let u = read_first (pair_at u32_at u32_at bytes) (λ p rest. Some (two_limits false p, rest)) (l, rest) h in
-    let t = two_exact.takes bytes u.0 u.1 u.2 in
-    subst (λ (z : Limits × List ℕ). BeginsWith SpellsMemory (b ∷ bytes) z.0 z.1 × (z.0.shared ≡ false)) (some_is _ _ u.3) ((b ∷ t.0, (e, t.1), ap (λ m. b ∷ m) t.2), refl)
-
-memory_takes : (bytes : List ℕ) (l : Limits) (rest : List ℕ) → memory_at bytes ≡ Some (l, rest) → BeginsWith SpellsMemory bytes l rest
-memory_takes [] l rest h = cc
-memory_takes (b ∷ bytes) l rest h =
-    elim (chosen (b == 0x00) _ _ (Some (l, rest)) h) [
-      | inl w ↦ (one_takes b bytes l rest (eqb-true b 0x00 w.0) w.1).0
-      | inr w ↦
-          elim (chosen (b == 0x01) _ _ (Some (l, rest)) w.1) [
-            | inl v ↦ (two_takes false b bytes l rest (eqb-true b 0x01 v.0) v.1).0
-            | inr v ↦
-                let t = chose_some (b == 0x03) (mapped (two_limits true) (pair_at u32_at u32_at) bytes) (l, rest) v.1 in (two_takes true b bytes l rest (eqb-true b 0x03 t.0) t.1).0
-          ]
-    ]
-
 limits_again : (min : ℕ) (max : Option ℕ) (shared : Bool) (front rest : List ℕ) → LimitsForm min max shared front → memory_at (front ++ rest) ≡ Some (record { min = min; max = max; shared = shared }, rest)
+limits_again min None false front rest h = tag_again memory_at 0x00 one_limit u32_exact (λ bytes. refl) front rest min h
+limits_again min (Some max) false front rest h = tag_again memory_at 0x01 (two_limits false) two_exact (λ bytes. refl) front rest (min, max) h
+limits_again min (Some max) true front rest h = tag_again memory_at 0x03 (two_limits true) two_exact (λ bytes. refl) front rest (min, max) h
 limits_again min None true front rest h = absurd h
-limits_again min None false [] rest h = absurd h
-limits_again min None false (b ∷ front) rest h =
-    subst (λ c. memory_at (c ∷ front ++ rest) ≡ Some (one_limit min, rest)) (sym h.0) (ap (λ o. and_then o (λ n rest. Some (one_limit n, rest))) (u32_exact.again front rest min h.1))
-limits_again min (Some max) false [] rest h = absurd h
-limits_again min (Some max) false (b ∷ front) rest h =
-    subst (λ c. memory_at (c ∷ front ++ rest) ≡ Some (two_limits false (min, max), rest)) (sym h.0) (ap (λ o. and_then o (λ p rest. Some (two_limits false p, rest))) (two_exact.again front rest (min, max) h.1))
-limits_again min (Some max) true [] rest h = absurd h
-limits_again min (Some max) true (b ∷ front) rest h =
-    subst (λ c. memory_at (c ∷ front ++ rest) ≡ Some (two_limits true (min, max), rest)) (sym h.0) (ap (λ o. and_then o (λ p rest. Some (two_limits true p, rest))) (two_exact.again front rest (min, max) h.1))
 
 pub memory_exact : IsExact SpellsMemory memory_at
-memory_exact = record { takes = memory_takes; again = λ front rest l h. limits_again l.min l.max l.shared front rest h }
+memory_exact = record {
+  takes = tagged_takes
+      (tag_takes 0x00 one_limit u32_exact (λ front x s. (refl, s))
+      (tag_takes 0x01 (two_limits false) two_exact (λ front x s. (refl, s)) (tag_takes 0x03 (two_limits true) two_exact (λ front x s. (refl, s)) (no_tag SpellsMemory))));
+  again = λ front rest l h. limits_again l.min l.max l.shared front rest h;
+}
 
 -- limits that aren't shared
 abbrev Unshared : List ℕ → Limits → Type 0
 Unshared bytes l = (l.shared ≡ false) × LimitsForm l.min l.max false bytes
 
-unshared_form : (l : Limits) (shared : Bool) (bytes : List ℕ) → l.shared ≡ shared → shared ≡ false → LimitsForm l.min l.max l.shared bytes → LimitsForm l.min l.max false bytes
-unshared_form l shared bytes e f h = subst (λ s. LimitsForm l.min l.max s bytes) (e ∙ f) h
-
-unshared_takes : (bytes : List ℕ) (l : Limits) (rest : List ℕ) → unshared_at bytes ≡ Some (l, rest) → BeginsWith Unshared bytes l rest
-unshared_takes [] l rest h = cc
-unshared_takes (b ∷ bytes) l rest h =
-    elim (chosen (b == 0x00) _ _ (Some (l, rest)) h) [
-      | inl w ↦ weaker (one_takes b bytes l rest (eqb-true b 0x00 w.0) w.1)
-      | inr w ↦
-          let t = chose_some (b == 0x01) (mapped (two_limits false) (pair_at u32_at u32_at) bytes) (l, rest) w.1 in weaker (two_takes false b bytes l rest (eqb-true b 0x01 t.0) t.1)
-    ] where
-      weaker : BeginsWith SpellsMemory (b ∷ bytes) l rest × (l.shared ≡ false) → BeginsWith Unshared (b ∷ bytes) l rest
-      weaker p = (p.0.0, (p.1, unshared_form l false p.0.0 p.1 refl p.0.1), p.0.2)
-
 unshared_again : (min : ℕ) (max : Option ℕ) (front rest : List ℕ) → LimitsForm min max false front → unshared_at (front ++ rest) ≡ Some (record { min = min; max = max; shared = false }, rest)
-unshared_again min None [] rest h = absurd h
-unshared_again min None (b ∷ front) rest h =
-    subst (λ c. unshared_at (c ∷ front ++ rest) ≡ Some (one_limit min, rest)) (sym h.0) (ap (λ o. and_then o (λ n rest. Some (one_limit n, rest))) (u32_exact.again front rest min h.1))
-unshared_again min (Some max) [] rest h = absurd h
-unshared_again min (Some max) (b ∷ front) rest h =
-    subst (λ c. unshared_at (c ∷ front ++ rest) ≡ Some (two_limits false (min, max), rest)) (sym h.0) (ap (λ o. and_then o (λ p rest. Some (two_limits false p, rest))) (two_exact.again front rest (min, max) h.1))
+unshared_again min None front rest h = tag_again unshared_at 0x00 one_limit u32_exact (λ bytes. refl) front rest min h
+unshared_again min (Some max) front rest h = tag_again unshared_at 0x01 (two_limits false) two_exact (λ bytes. refl) front rest (min, max) h
 
 unshared_exact : IsExact Unshared unshared_at
 unshared_exact = record {
-  takes = unshared_takes;
+  takes = tagged_takes (tag_takes 0x00 one_limit u32_exact (λ front x s. (refl, (refl, s))) (tag_takes 0x01 (two_limits false) two_exact (λ front x s. (refl, (refl, s))) (no_tag Unshared)));
   again = λ front rest l h. unshared_again l.min l.max front rest h.1 ∙ ap (λ s. Some (record { min = l.min; max = l.max; shared = s }, rest)) (sym h.0);
 }
 

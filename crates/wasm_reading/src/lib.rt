@@ -11,8 +11,6 @@ mod fault;
 mod instrs;
 mod modules;
 mod parts;
-#[cfg(test)]
-mod tests;
 mod types;
 
 pub use fault::ReadFault;

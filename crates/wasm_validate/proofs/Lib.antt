@@ -2,4 +2,3 @@ pub mod StackLemmas
 pub mod LocalLemmas
 pub mod AlgorithmLemmas
 pub mod ModuleLemmas
-pub mod NumberedLemmas

@@ -8,8 +8,6 @@ mod imported;
 mod instruction;
 mod module;
 mod rules;
-#[cfg(test)]
-mod tests;
 mod valid;
 
 pub use valid::{Valid, ValidateFault, validate};

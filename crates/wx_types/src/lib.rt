@@ -21,6 +21,3 @@ pub use memory_source::MemSource;
 pub use outside::{Shelf, Sink, Source, write_whole};
 pub use requests::{NodeKind, Request, Task};
 pub use text_list::Texts;
-
-#[cfg(test)]
-mod tests;

@@ -1,4 +1,4 @@
-use Rattle.wasm_encode.proofs.LeastModule.{module_written}
+use Rattle.wasm_encode.proofs.ShortestModule.{module_written}
 use Rattle.wasm_encode.proofs.canon_is_a_spelling.Goals as goal
 
 pub returns : goal.returns

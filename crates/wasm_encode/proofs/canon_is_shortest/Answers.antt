@@ -1,5 +1,5 @@
-use Rattle.wasm_encode.proofs.LeastModule.{module_written}
+use Rattle.wasm_encode.proofs.ShortestModule.{module_written}
 use Rattle.wasm_encode.proofs.canon_is_shortest.Goals as goal
 
 pub returns : goal.returns
-returns c = λ bytes m a h. (module_written bytes m a h).least
+returns c = λ bytes m a h. (module_written bytes m a h).shorter

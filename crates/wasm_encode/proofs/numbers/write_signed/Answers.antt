@@ -3,7 +3,7 @@ use Rattle.std.specs.Int.{int_div_euclid, w64}
 use Rattle.std.proofs.lemmas.Int.{to_z-of_z}
 use Rattle.std.proofs.Math.Facts.{sfits_to_z}
 use Rattle.wasm_ast.specs.Shortest.{shortest_signed}
-use Rattle.wasm_encode.proofs.ShortestLemmas.{goes_on, stops, signed_more, signed_last, within}
+use Rattle.wasm_encode.proofs.NumberSteps.{goes_on, stops, signed_more, signed_last, within}
 use Rattle.wasm_encode.proofs.numbers.write_signed.Goals as goal
 
 pub bytes-preserved : goal.bytes-preserved

@@ -1,6 +1,6 @@
 use Rattle.std.proofs.Common.{◌/◌, arith}
 use Rattle.wasm_ast.specs.Shortest.{shortest_unsigned}
-use Rattle.wasm_encode.proofs.ShortestLemmas.{goes_on, unsigned_more, unsigned_last}
+use Rattle.wasm_encode.proofs.NumberSteps.{goes_on, unsigned_more, unsigned_last}
 use Rattle.wasm_encode.proofs.numbers.write_unsigned.Goals as goal
 
 pub bytes-preserved : goal.bytes-preserved

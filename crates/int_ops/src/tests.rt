@@ -1,3 +1,0 @@
-mod bits_32;
-mod bits_64;
-mod conversions;

@@ -1,0 +1,190 @@
+#!/usr/bin/env python3
+"""Writes the rows of the operator suite, data/operators.txt, and the lines that are expected of them, stdout.
+
+    python3 make_cases.py
+
+The values are computed with Python's integers, which have no bound, by the definitions of WebAssembly Core 1.0,
+sections 4.3.2 and 4.3.4, those of numbers by section 5.2.2, and the atomic ones by the threads proposal. Nothing
+here knows of the project's code.
+
+`NAME A` and `NAME A B` are an operator on numbers in hexadecimal, of 32 bits in 8 digits and of 64 bits in 16;
+`NAME of 00 01 ..` is an item read from the front of bytes.
+"""
+import os
+
+LINES = [
+    "# The rows of the operator suite, written by make_cases.py, which says what they are. The answers are in the",
+    "# file stdout.",
+]
+EXPECTED = []
+
+def title(text):
+    LINES.append("")
+    LINES.append(f"# {text}")
+
+def row(text, answer):
+    LINES.append(text)
+    EXPECTED.append(f"{text}: {answer}")
+
+# ------------------------------------------------------------------- operators
+
+def signed(bits, n):
+    return n - 2 ** bits if n >= 2 ** (bits - 1) else n
+
+def truncated(a, b):
+    """The quotient, rounded towards 0."""
+    quotient = abs(a) // abs(b)
+    return quotient if (a < 0) == (b < 0) else -quotient
+
+def div_s(bits, a, b):
+    if b == 0:
+        return "divide by zero"
+    quotient = truncated(signed(bits, a), signed(bits, b))
+    return "overflow" if quotient == 2 ** (bits - 1) else quotient
+
+def rem_s(bits, a, b):
+    if b == 0:
+        return "divide by zero"
+    a, b = signed(bits, a), signed(bits, b)
+    return a - b * truncated(a, b)
+
+def rotl(bits, a, k):
+    k %= bits
+    return a << k | a >> (bits - k)
+
+BINARY = {
+    "add": lambda bits, a, b: a + b,
+    "sub": lambda bits, a, b: a - b,
+    "mul": lambda bits, a, b: a * b,
+    "div_s": div_s,
+    "div_u": lambda bits, a, b: a // b if b else "divide by zero",
+    "rem_s": rem_s,
+    "rem_u": lambda bits, a, b: a % b if b else "divide by zero",
+    "and": lambda bits, a, b: a & b,
+    "or": lambda bits, a, b: a | b,
+    "xor": lambda bits, a, b: a ^ b,
+    "shl": lambda bits, a, b: a << b % bits,
+    "shr_s": lambda bits, a, b: signed(bits, a) >> b % bits,
+    "shr_u": lambda bits, a, b: a >> b % bits,
+    "rotl": rotl,
+    "rotr": lambda bits, a, b: rotl(bits, a, -b),
+}
+COMPARISON = {
+    "eq": lambda a, b: a == b,
+    "ne": lambda a, b: a != b,
+    "lt": lambda a, b: a < b,
+    "gt": lambda a, b: a > b,
+    "le": lambda a, b: a <= b,
+    "ge": lambda a, b: a >= b,
+}
+UNARY = {
+    "clz": lambda bits, a: bits - a.bit_length(),
+    "ctz": lambda bits, a: (a & -a).bit_length() - 1 if a else bits,
+    "popcnt": lambda bits, a: bin(a).count("1"),
+}
+
+def digits(bits, n):
+    return f"{n % 2 ** bits:0{bits // 4}x}"
+
+def shown(bits, answer):
+    return answer if isinstance(answer, str) else digits(bits, int(answer))
+
+def corners(bits):
+    """0, the least and the greatest numbers with and without a sign, and numbers near them."""
+    half = 2 ** (bits - 1)
+    return [0, 1, 7, half - 1, half, 2 * half - 7, 2 * half - 1]
+
+def distances(bits):
+    """Counts of bits about the number of bits."""
+    return [0, 1, bits - 1, bits, bits + 1, 2 * bits - 1, 2 ** bits - 1]
+
+for bits in (32, 64):
+    for name, of in BINARY.items():
+        title(f"i{bits}.{name}")
+        for a in corners(bits):
+            for b in distances(bits) if name in ("shl", "shr_s", "shr_u", "rotl", "rotr") else corners(bits):
+                row(f"i{bits}.{name} {digits(bits, a)} {digits(bits, b)}", shown(bits, of(bits, a, b)))
+    for name, of in COMPARISON.items():
+        for sign in [""] if name in ("eq", "ne") else ["_s", "_u"]:
+            title(f"i{bits}.{name}{sign}")
+            view = (lambda n: signed(bits, n)) if sign == "_s" else (lambda n: n)
+            for a in corners(bits)[::2]:
+                for b in corners(bits)[1::2] + [a]:
+                    row(f"i{bits}.{name}{sign} {digits(bits, a)} {digits(bits, b)}",
+                        shown(32, of(view(a), view(b))))
+    title(f"i{bits}.eqz, clz, ctz, popcnt")
+    for a in corners(bits) + [2 ** place for place in range(3, bits, 9)]:
+        row(f"i{bits}.eqz {digits(bits, a)}", shown(32, a == 0))
+        for name, of in UNARY.items():
+            row(f"i{bits}.{name} {digits(bits, a)}", shown(bits, of(bits, a)))
+
+title("Conversions")
+for a in corners(32):
+    row(f"i64.extend_i32_s {digits(32, a)}", shown(64, signed(32, a)))
+    row(f"i64.extend_i32_u {digits(32, a)}", shown(64, a))
+for a in corners(64) + [2 ** 32 - 1, 2 ** 32, 2 ** 32 + 1, 2 ** 31 + 2 ** 40]:
+    row(f"i32.wrap_i64 {digits(64, a)}", shown(32, a))
+
+ATOMIC = {
+    "add": lambda a, b: a + b, "sub": lambda a, b: a - b, "and": lambda a, b: a & b, "or": lambda a, b: a | b,
+    "xor": lambda a, b: a ^ b, "xchg": lambda a, b: b,
+}
+for name, bits in (("rmw8", 8), ("rmw16", 16), ("rmw32", 32), ("rmw", 64)):
+    for operator, of in ATOMIC.items():
+        title(f"{name}.{operator}, of the low {bits} bits")
+        for a in (1, 0x123456789ABCDEFF, 2 ** (bits - 1)):
+            for b in (1, 2 ** bits - 1, (2 ** bits + 2) % 2 ** 64, 2 ** 64 - 1):
+                row(f"{name}.{operator} {digits(64, a)} {digits(64, b)}",
+                    digits(64, of(a % 2 ** bits, b % 2 ** bits) % 2 ** bits))
+
+# --------------------------------------------------------------------- reading
+
+def leb(data, bits, is_signed):
+    """The number at the front of bytes (5.2.2), and how many bytes it has: or a fault, and none."""
+    value, shift = 0, 0
+    for place, byte in enumerate(data):
+        left = bits - shift
+        value |= byte % 128 << shift
+        if left > 7 and byte >= 128:
+            shift += 7
+            continue
+        if byte >= 128:
+            return "too long", 0
+        if is_signed and byte >= 64:
+            value -= 2 ** (shift + 7)
+        least, most = (-2 ** (bits - 1), 2 ** (bits - 1)) if is_signed else (0, 2 ** bits)
+        return (value, place + 1) if least <= value < most else ("too long", 0)
+    return "end", 0
+
+def reading(name, data, answer, used):
+    row(f"{name} of {' '.join(f'{byte:02x}' for byte in data)}", f"{answer}, {len(data) - used} left")
+
+NUMBERS = [
+    "00", "3f", "40", "7f", "80", "ff", "80 00", "80 01", "ff 00", "ff 7f", "80 80", "e5 8e 26", "c0 bb 78",
+    "87 80 80 80 00", "ff ff ff ff", "ff ff ff ff 07", "ff ff ff ff 08", "ff ff ff ff 0f", "ff ff ff ff 10",
+    "80 80 80 80 07", "80 80 80 80 08", "80 80 80 80 10", "80 80 80 80 70", "80 80 80 80 77", "80 80 80 80 78",
+    "80 80 80 80 7f", "87 80 80 80 80 00", "87 80 80 80 80", "ff ff ff ff ff ff ff ff ff", "7f 01 02",
+    "80 80 80 80 80 80 80 80 80 00", "80 80 80 80 80 80 80 80 80 01", "80 80 80 80 80 80 80 80 80 7f",
+    "80 80 80 80 80 80 80 80 80 7e", "80 80 80 80 80 80 80 80 80 40", "ff ff ff ff ff ff ff ff ff 00",
+    "ff ff ff ff ff ff ff ff ff 01", "80 80 80 80 80 80 80 80 80 80 00", "c0 bb 78 00",
+]
+for name, bits, is_signed in (("u32", 32, False), ("i32", 32, True), ("i64", 64, True)):
+    title(f"LEB128, {name}")
+    for text in NUMBERS:
+        data = bytes.fromhex(text)
+        reading(name, data, *leb(data, bits, is_signed))
+
+title("Items of fixed sizes, the lowest byte first")
+for name, size in (("byte", 1), ("two bytes", 2), ("four bytes", 4), ("eight bytes", 8)):
+    for data in (bytes(range(1, 10)), bytes(range(1, size + 1)), bytes(range(1, size)) + b"\xff",
+                 bytes([0xFF] * size), bytes(range(1, size))):
+        if data:
+            enough = len(data) >= size
+            reading(name, data, int.from_bytes(data[:size], "little") if enough else "end", size if enough else 0)
+
+if __name__ == "__main__":
+    here = os.path.dirname(os.path.abspath(__file__))
+    with open(os.path.join(here, "data", "operators.txt"), "w", encoding="ascii", newline="\n") as file:
+        file.write("\n".join(LINES) + "\n")
+    with open(os.path.join(here, "stdout"), "w", encoding="ascii", newline="\n") as file:
+        file.write("\n".join(EXPECTED) + "\n")
