@@ -1,4 +1,4 @@
 pub mod StackLemmas
 pub mod LocalLemmas
-pub mod LeftLemmas
+pub mod AlgorithmLemmas
 pub mod ModuleLemmas

@@ -3,9 +3,9 @@ use Rattle.std.proofs.Common.{◌≡◌, ℕ, zero, suc, ◌+◌, ◌-◌, ◌<�
 use Rattle.std.proofs.lemmas.List.{reverse-append, length-reverse, length-drop, take-append-drop, drop_at, get_or-reverse, length-map, take_more}
 use Rattle.std.proofs.lemmas.Option.{slice_get-get_or, slice_get_past, slice_get-map}
 use Rattle.wasm_ast.specs.declared.types.ValType.{ValType}
-use Rattle.wasm_ast.specs.Typing.{Operands, any_operands, popped, taken, is_empty}
+use Rattle.wasm_ast.specs.Typing.{Operands, any_operands, popped, taken, is_empty, label_of}
 use Rattle.wasm_validate.specs.declared.blocks.Frame.{Frame}
-use Rattle.wasm_validate.specs.Blocks.{label_of, outer_labels, Closes}
+use Rattle.wasm_validate.specs.Blocks.{outer_labels, Closes}
 use Rattle.wasm_validate.specs.View.{outer_of, view_of, count_of}
 
 module _ {X : Type 0} where

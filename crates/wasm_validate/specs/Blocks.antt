@@ -1,9 +1,9 @@
 -- The open blocks of a function while its instructions are read.
-use Rattle.std.specs.Prelude.{◌≡◌, ◌+◌, Bool, true, false, List, [], ◌∷◌, Option, Some, None}
+use Rattle.std.specs.Prelude.{◌≡◌, Bool, true, false, List, [], ◌∷◌, Option, Some, None}
 use Rattle.wasm_ast.specs.declared.types.ValType.{ValType}
-use Rattle.wasm_ast.specs.Typing.{Operands, Labels}
-use Rattle.wasm_validate.specs.declared.blocks.Kind.{Kind}
-use Rattle.wasm_validate.specs.declared.blocks.Kind.TheVariants as kind
+use Rattle.wasm_ast.specs.declared.instr.BlockKind.{BlockKind}
+use Rattle.wasm_ast.specs.declared.instr.BlockKind.TheVariants as kind
+use Rattle.wasm_ast.specs.Typing.{Operands, Labels, no_operands, label_of}
 use Rattle.wasm_validate.specs.declared.blocks.Block.{Block}
 
 -- a block around the innermost one, with its operands
@@ -30,12 +30,7 @@ abbrev pub drawn_to : Option (Option ValType) → Operands → Option (Option Va
 drawn_to None s = None
 drawn_to (Some x) s = Some (x, s)
 
--- what a branch to a block takes
-abbrev pub label_of : Kind → Option ValType → Option ValType
-label_of kind.Plain of = of
-label_of kind.Loop of = None
-label_of (kind.FirstArm second) of = of
-
+-- what branches to blocks take, by their types and kinds
 abbrev pub outer_labels : List Outer → Labels
 outer_labels [] = []
 outer_labels (b ∷ bs) = label_of b.block.kind b.block.of ∷ outer_labels bs
@@ -43,9 +38,16 @@ outer_labels (b ∷ bs) = label_of b.block.kind b.block.of ∷ outer_labels bs
 abbrev pub labels_of : Enclosing → Labels
 labels_of e = label_of e.block.kind e.block.of ∷ outer_labels e.outer
 
--- behind the next instruction
-abbrev pub advanced : Enclosing → Enclosing
-advanced e = record { block = record { kind = e.block.kind; of = e.block.of; list = e.block.list; next = e.block.next + 1 }; outer = e.outer }
+-- the one block of a function's own instructions
+abbrev pub first_block : Option ValType → OpenBlocks
+first_block of = record { operands = no_operands; enclosing = record { block = record { kind = kind.Block; of = of }; outer = [] } }
+
+-- inside a further block
+abbrev pub opened : BlockKind → Option ValType → OpenBlocks → OpenBlocks
+opened k of v = record {
+  operands = no_operands;
+  enclosing = record { block = record { kind = k; of = of }; outer = record { block = v.enclosing.block; operands = v.operands } ∷ v.enclosing.outer };
+}
 
 -- the nearest block around a closed one is the innermost then, if there is one
 abbrev pub Closes : List Outer → Bool → OpenBlocks → Type 0

@@ -1,5 +1,5 @@
 pub mod Blocks
 pub mod View
 pub mod Context
-pub mod Left
+pub mod Algorithm
 pub mod Ends

@@ -1,32 +1,19 @@
 // The open blocks of a function, with their operands.
 ghost use Rattle.std.specs.Prelude.{◌≡◌, ◌+◌, ◌<◌, ◌^◌, ◌&&◌, true, [], ◌∷◌, IfOk, OnOk, option_to_list, slice_get};
 ghost use Rattle.wasm_ast.specs.Typing.{no_operands, any_operands, pushed, drawn, popped, taken, given, applied, is_empty};
-ghost use Rattle.wasm_validate.specs.Blocks.{OpenBlocks, ended, drawn_to, label_of, labels_of, advanced, Closes};
+ghost use Rattle.wasm_ast.specs.Typing.{label_of};
+ghost use Rattle.wasm_validate.specs.Blocks.{OpenBlocks, ended, drawn_to, labels_of, first_block, opened, Closes};
 
 use std::alloc::{AllocError, Global};
 use std::marker::Model;
-use wasm_ast::ValType;
+use wasm_ast::{BlockKind, ValType};
 
-/// What an open block is.
-#[derive(Clone, Copy)]
-pub enum Kind {
-    /// A block, the second arm of an if, or the function's own instructions.
-    Plain,
-    Loop,
-    /// The first arm of an if, with the number of the list of the second.
-    FirstArm(u32),
-}
-
-/// An open block: which of its instructions comes next.
+/// An open block. An arm of an if, and the function's own instructions, are blocks.
 #[derive(Clone, Copy)]
 pub struct Block {
-    pub kind: Kind,
+    pub kind: BlockKind,
     /// The type of the value that it leaves, if any.
     pub of: Option<ValType>,
-    /// The number of its list of instructions.
-    pub list: u32,
-    /// The place of the next instruction in the list.
-    pub next: usize,
 }
 
 /// An open block and its operands, which lie in a stack with those of the others.
@@ -60,19 +47,15 @@ impl Model for Blocks {
 }
 
 impl Blocks {
-    /// The one block of a function's own instructions, in list 0, without operands. No memory is taken.
+    /// The one block of a function's own instructions, without operands. No memory is taken.
     pub fn new(alloc: Global, of: Option<ValType>) -> Blocks
-        ensures operands { result.operands ≡ no_operands }
-        ensures block { result.enclosing.block ≡ record { kind = Kind.Plain; of = of; list = 0; next = 0 } }
-        ensures outer { result.enclosing.outer ≡ [] }
+        ensures { result ≡ first_block of }
     {
         Blocks {
             innermost: Frame {
                 block: Block {
-                    kind: Kind::Plain,
+                    kind: BlockKind::Block,
                     of,
-                    list: 0,
-                    next: 0,
                 },
                 own: 0,
                 marked: false,
@@ -222,14 +205,12 @@ impl Blocks {
     }
 
     /// Opens a block, without operands.
-    pub fn open(&mut self, block: Block) -> Result<(), AllocError>
-        ensures operands { OnOk result (self.new.operands ≡ no_operands) }
-        ensures block { OnOk result (self.new.enclosing.block ≡ block) }
-        ensures outer { OnOk result (self.new.enclosing.outer ≡ record { block = self.old.enclosing.block; operands = self.old.operands } ∷ self.old.enclosing.outer) }
+    pub fn open(&mut self, kind: BlockKind, of: Option<ValType>) -> Result<(), AllocError>
+        ensures { OnOk result (self.new ≡ opened kind of self.old) }
     {
         self.outer.push(self.innermost)?;
         self.innermost = Frame {
-            block,
+            block: Block { kind, of },
             own: 0,
             marked: false,
         };
@@ -250,31 +231,20 @@ impl Blocks {
         }
     }
 
-    /// Begins another block in place of the innermost one, which is to have no operands.
-    pub fn replace(&mut self, block: Block)
+    /// Begins the second arm of an if in place of the first, which is to have no operands.
+    pub fn restart(&mut self)
         requires { is_empty self.old.operands.types ≡ true }
         ensures operands { self.new.operands ≡ no_operands }
-        ensures block { self.new.enclosing.block ≡ block }
-        ensures outer { self.new.enclosing.outer ≡ self.old.enclosing.outer }
+        ensures enclosing { self.new.enclosing ≡ self.old.enclosing }
     {
-        self.innermost.block = block;
         self.innermost.marked = false;
     }
 
-    /// The innermost block.
-    pub fn block(&self) -> Block
-        ensures { result ≡ self.now.enclosing.block }
+    /// The type of the value that the innermost block leaves, if any.
+    pub fn leaves(&self) -> Option<ValType>
+        ensures { result ≡ self.now.enclosing.block.of }
     {
-        self.innermost.block
-    }
-
-    /// Goes on behind the next instruction of the innermost block.
-    pub fn advance(&mut self)
-        requires { self.old.enclosing.block.next + 1 < 2 ^ 64 }
-        ensures operands { self.new.operands ≡ self.old.operands }
-        ensures enclosing { self.new.enclosing ≡ advanced self.old.enclosing }
-    {
-        self.innermost.block.next += 1;
+        self.innermost.block.of
     }
 }
 
@@ -284,8 +254,8 @@ impl Block {
         ensures { result ≡ label_of self.kind self.of }
     {
         match self.kind {
-            Kind::Loop => None,
-            Kind::Plain | Kind::FirstArm(_) => self.of,
+            BlockKind::Loop => None,
+            BlockKind::Block => self.of,
         }
     }
 }

@@ -1,113 +1,89 @@
 // Whether the instructions of a function or of an expression are typed: WebAssembly Core 1.0,
 // sections 3.3.5 to 3.3.7 and 7.3.
-ghost use Rattle.std.specs.Prelude.{◌≡◌, ◌+◌, ◌<◌, ◌^◌, true, IfOk, OnOk, IsSome, option_copied, slice_get};
+ghost use Rattle.std.specs.Prelude.{◌≡◌, Some, true, IfOk};
 ghost use Rattle.std.specs.Bool.{OnTrue};
-ghost use Rattle.wasm_ast.specs.Numbering.{list_at};
 ghost use Rattle.wasm_ast.specs.Typing.{is_body, is_empty, leaves};
+ghost use Rattle.wasm_ast.specs.Walk.{event_of};
 ghost use Rattle.wasm_validate.specs.Context.{context};
-ghost use Rattle.wasm_validate.specs.Left.{AreNested, Turns, entered};
+ghost use Rattle.wasm_validate.specs.Algorithm.{fitting, begun, at_else, at_end, step};
 
-use super::blocks::{Block, Blocks, Kind};
+use super::blocks::Blocks;
 use super::context::Context;
 use std::alloc::{AllocError, Global};
-use wasm_ast::{Body, Instr, Items, ValType};
-
-/// What a turn of the loop over the instructions comes to.
-#[derive(Clone, Copy)]
-pub enum Turn {
-    /// There is more to read.
-    Goes,
-    /// It is known whether the instructions are typed.
-    Ends(bool),
-}
+use wasm_ast::{BlockKind, Body, Construct, Event, ValType, Walk};
 
 impl Context<'_> {
     /// Whether the instructions fit one another and leave exactly the result.
     pub fn is_body(&self, alloc: Global, body: &Body) -> Result<bool, AllocError>
         ensures { IfOk result (λ fits. fits ≡ is_body (context self.now) body.now) }
     {
-        let lists = body.lists();
+        let mut walk = Walk::new(alloc, body);
         let mut blocks = Blocks::new(alloc, self.result);
-        'turns: loop {
-            if let Turn::Ends(fits) = self.turn(lists, &mut blocks)? {
-                return Ok(fits);
+        'events: while let Some(event) = walk.next()? {
+            if !self.step(&mut blocks, event)? {
+                return Ok(false);
             }
         }
+        Ok(is_left(&mut blocks, self.result))
     }
 
-    /// Reads the next instruction of the innermost block, or its end.
-    fn turn(&self, lists: &[Items<Instr>], blocks: &mut Blocks) -> Result<Turn, AllocError>
-        requires { AreNested lists.now }
-        ensures { IfOk result (λ turn. Turns (context self.now) lists.now blocks.old turn blocks.new) }
+    /// Whether an event fits what came before it.
+    fn step(&self, blocks: &mut Blocks, event: Event<'_>) -> Result<bool, AllocError>
+        ensures { IfOk result (λ fits. fitting fits blocks.new ≡ step (context self.now) (event_of event.entry) blocks.old) }
     {
-        let block = blocks.block();
-        let Some(instr) = instruction(lists, block) else {
-            return self.end(lists, blocks);
-        };
-        match instr {
-            Instr::Block { of, body } => {
-                enter(blocks, Kind::Plain, *of, *body)?;
-                Ok(Turn::Goes)
-            }
-            Instr::Loop { of, body } => {
-                enter(blocks, Kind::Loop, *of, *body)?;
-                Ok(Turn::Goes)
-            }
-            Instr::If {
-                of,
-                then,
-                otherwise,
-            } => {
-                if !blocks.expect(ValType::I32) {
-                    return Ok(Turn::Ends(false));
-                }
-                enter(blocks, Kind::FirstArm(*otherwise), *of, *then)?;
-                Ok(Turn::Goes)
-            }
-            instr => {
-                if !self.after(blocks, instr)? {
-                    return Ok(Turn::Ends(false));
-                }
-                blocks.advance();
-                Ok(Turn::Goes)
-            }
+        match event {
+            Event::Instruction(instr) => self.after(blocks, instr),
+            Event::Begin(construct, of) => begin(blocks, construct, of),
+            Event::Else { .. } => Ok(goes_to_second(blocks)),
+            Event::End => end(blocks),
         }
-    }
-
-    /// Reads the end of the innermost block.
-    fn end(&self, lists: &[Items<Instr>], blocks: &mut Blocks) -> Result<Turn, AllocError>
-        requires nested { AreNested lists.now }
-        requires read { slice_get (list_at lists.now blocks.old.enclosing.block.list) blocks.old.enclosing.block.next ≡ None }
-        ensures { IfOk result (λ turn. Turns (context self.now) lists.now blocks.old turn blocks.new) }
-    {
-        let block = blocks.block();
-        if !is_left(blocks, block.of) {
-            return Ok(Turn::Ends(false));
-        }
-        if let Kind::FirstArm(second) = block.kind {
-            blocks.replace(Block {
-                kind: Kind::Plain,
-                of: block.of,
-                list: second,
-                next: 0,
-            });
-            return Ok(Turn::Goes);
-        }
-        if !blocks.close() {
-            return Ok(Turn::Ends(true));
-        }
-        blocks.give_value(block.of)?;
-        Ok(Turn::Goes)
     }
 }
 
-/// The next instruction of a block, if it isn't at its end.
-fn instruction(lists: &[Items<Instr>], block: Block) -> Option<&Instr>
-    ensures value { option_copied result ≡ slice_get (list_at lists.now block.list) block.next }
-    ensures room { IsSome result → block.next + 1 < 2 ^ 64 }
+/// Begins a block, a loop or an if.
+fn begin(blocks: &mut Blocks, construct: Construct, of: Option<ValType>) -> Result<bool, AllocError>
+    ensures { IfOk result (λ fits. fitting fits blocks.new ≡ begun construct of blocks.old) }
 {
-    let list = lists.get(block.list as usize)?;
-    list.as_slice().get(block.next)
+    match construct {
+        Construct::Block(kind) => {
+            blocks.open(kind, of)?;
+            Ok(true)
+        }
+        Construct::If => {
+            if !blocks.expect(ValType::I32) {
+                return Ok(false);
+            }
+            blocks.open(BlockKind::Block, of)?;
+            Ok(true)
+        }
+    }
+}
+
+/// Ends the first arm of an if, and begins the second.
+fn goes_to_second(blocks: &mut Blocks) -> bool
+    ensures { fitting result blocks.new ≡ at_else blocks.old }
+{
+    let of = blocks.leaves();
+    if !is_left(blocks, of) {
+        return false;
+    }
+    blocks.restart();
+    true
+}
+
+/// Ends a block, a loop or an if.
+fn end(blocks: &mut Blocks) -> Result<bool, AllocError>
+    ensures { IfOk result (λ fits. fitting fits blocks.new ≡ at_end blocks.old) }
+{
+    let of = blocks.leaves();
+    if !is_left(blocks, of) {
+        return Ok(false);
+    }
+    if !blocks.close() {
+        return Ok(false);
+    }
+    blocks.give_value(of)?;
+    Ok(true)
 }
 
 /// Whether the operands are exactly the value of a block's type, if any. There are none then.
@@ -117,18 +93,4 @@ fn is_left(blocks: &mut Blocks, of: Option<ValType>) -> bool
     ensures enclosing { blocks.new.enclosing ≡ blocks.old.enclosing }
 {
     blocks.expect_value(of) && blocks.is_empty()
-}
-
-/// Opens a block whose instruction is the next one.
-fn enter(blocks: &mut Blocks, kind: Kind, of: Option<ValType>, list: u32) -> Result<(), AllocError>
-    requires { blocks.old.enclosing.block.next + 1 < 2 ^ 64 }
-    ensures { OnOk result (blocks.new ≡ entered blocks.old.operands blocks.old.enclosing kind of list) }
-{
-    blocks.advance();
-    blocks.open(Block {
-        kind,
-        of,
-        list,
-        next: 0,
-    })
 }

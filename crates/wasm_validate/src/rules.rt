@@ -194,8 +194,7 @@ fn are_constant_instructions(globals: &[(ValType, bool)], list: &[Instr]) -> boo
 fn are_constant(globals: &[(ValType, bool)], body: &Body) -> bool
     ensures { result ≡ are_constant globals.now body.now }
 {
-    let lists = body.lists();
-    are_constant_instructions(globals, lists[0].as_slice())
+    are_constant_instructions(globals, body.list(0))
 }
 
 /// Whether no name is exported twice (3.4.10).
