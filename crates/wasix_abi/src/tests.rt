@@ -138,6 +138,7 @@ fn other_calls_and_replies_leave_the_memory(rt: HostRuntime) -> Result<(), Fail>
     }
     let request = request_of(alloc, &memory, 17, &[1, 0, 0, 8])?;
     apply(&mut memory, &request, 8, &bytes);
-    assert!(rt; memory.as_slice().iter().all(|byte| *byte == 0));
+    let held = memory.bytes(alloc, 0, 65_536)?;
+    assert!(rt; held.as_slice().iter().all(|byte| *byte == 0));
     Ok(())
 }
