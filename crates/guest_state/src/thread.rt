@@ -1,0 +1,168 @@
+// A guest thread, and what is done to it from outside the interpreter.
+ghost use Rattle.std.specs.Prelude.{◌≡◌, ◌+◌, ◌≤◌, ◌<◌, length, [], IfOk, OnOk, OnErr, IfErr, Ok, Err, true};
+ghost use Rattle.guest_state.specs.Module.{own_function, type_of, further_locals, first_globals, result_count};
+ghost use Rattle.guest_state.specs.Snapshot.{thread_of};
+ghost use Rattle.guest_state.specs.Steps.{started, with_frame, has_room};
+ghost use Rattle.std.specs.Bool.{OnTrue};
+ghost use Rattle.wasm_ast.specs.declared.module.Module.{Module};
+
+use super::entries::{OpenFrame, OpenLabel};
+use super::functions::{first_globals, further_locals, own_function, returns};
+use super::stack::{Stack, push_all};
+use int_ops::Cause;
+use std::alloc::{AllocError, Global};
+use std::marker::Model;
+use wasm_ast::{Module, Position};
+
+/// The most frames of a thread.
+const MOST_FRAMES: usize = 1024;
+
+/// The most values of a thread, the locals of its frames among them.
+const MOST_VALUES: usize = 65_536;
+
+/// The most labels of a thread.
+const MOST_LABELS: usize = 16_384;
+
+/// A guest thread. Contracts see what it stands for in its module. All the room that it may come to need is
+/// taken when it starts.
+#[derive(Drop)]
+pub struct Thread {
+    values: Stack<u64>,
+    labels: Stack<OpenLabel>,
+    frames: Stack<OpenFrame>,
+    globals: Vec<u64>,
+    base: usize,
+    main: bool,
+    full: bool,
+}
+
+impl Model for Thread {
+    ghost use Rattle.guest_state.specs.Snapshot.{Snapshot};
+    ghost use Rattle.guest_state.specs.Sound.{IsSound};
+
+    ghost Value = { Snapshot };
+
+    ghost view = { λ t. record { values = t.values.items; labels = t.labels.items; frames = t.frames.items; globals = t.globals.items; main = t.main; full = t.full } };
+
+    ghost invariant = { λ t. IsSound t.values t.labels t.frames t.base };
+}
+
+impl Thread {
+    /// A thread that begins a function, given by its index, with these arguments. It takes room for 1,024
+    /// frames, 65,536 values and 16,384 labels, so that nothing done to it later takes any. `AllocError` is want
+    /// of memory and nothing else.
+    pub fn start(
+        alloc: Global,
+        module: &Module,
+        function: u32,
+        arguments: &[u64],
+        main: bool,
+    ) -> Result<Thread, AllocError>
+        requires { length arguments.now + further_locals «module».now (own_function «module».now function) ≤ 65536 }
+        ensures { IfOk result (λ t. thread_of «module».now t ≡ started «module».now (own_function «module».now function) arguments.now main) }
+    {
+        let function = own_function(module, function);
+        let filler = Position::start(0);
+        let label = OpenLabel {
+            branch: filler,
+            end: filler,
+            height: 0,
+            carries: false,
+        };
+        let mut values = Stack::with_room(alloc, 0, MOST_VALUES)?;
+        let labels = Stack::with_room(alloc, label, MOST_LABELS)?;
+        let globals = first_globals(alloc, module)?;
+        push_all(&mut values, arguments, further_locals(module, function));
+        let frame = OpenFrame {
+            function,
+            returns: returns(module, function),
+            locals_start: 0,
+            locals_end: values.len(),
+            labels_start: 0,
+            place: filler,
+        };
+        let mut frames = Stack::with_room(alloc, frame, MOST_FRAMES)?;
+        frames.push(frame);
+        Ok(Thread {
+            values,
+            labels,
+            frames,
+            globals,
+            base: 0,
+            main,
+            full: false,
+        })
+    }
+
+    /// Whether it was started as a main thread, whose end ends its process. A copy has the same answer.
+    pub fn main(&self) -> bool
+        ensures { result ≡ self.now.main }
+    {
+        self.main
+    }
+
+    /// Marks that a handler's frame found no room, so that the next step traps.
+    pub fn mark_full(&mut self)
+        ensures { self.new ≡ record self.old { full = true } }
+    {
+        self.full = true;
+    }
+
+    // Whether there is room for a frame more and so many values more.
+    fn has_room(&self, values: usize) -> bool
+        requires { 0 < length self.now.frames }
+        ensures value { (m : Module) → result ≡ has_room (thread_of m self.now) values }
+        ensures values_free { OnTrue result (length self.now.values + values ≤ 65536) }
+        ensures frames_free { OnTrue result (length self.now.frames < 1024) }
+    {
+        self.frames.len() < MOST_FRAMES && values <= MOST_VALUES - self.values.len()
+    }
+
+    /// Puts the frame of a function, given by its index, above the others of a thread that hasn't finished, with
+    /// these arguments. `StackFull` comes exactly where there would be more than 1,024 frames or 65,536 values,
+    /// the arguments and locals of the new frame among them; the thread is unchanged then. No memory is taken.
+    pub fn push_frame(
+        &mut self,
+        module: &Module,
+        function: u32,
+        arguments: &[u64],
+    ) -> Result<(), Cause>
+        requires { 0 < length self.old.frames }
+        ensures ok { OnOk result (with_frame «module».now (own_function «module».now function) arguments.now (thread_of «module».now self.old) ≡ Ok (thread_of «module».now self.new)) }
+        ensures err { IfErr result (λ cause. with_frame «module».now (own_function «module».now function) arguments.now (thread_of «module».now self.old) ≡ Err cause) }
+        ensures unchanged { OnErr result (self.new ≡ self.old) }
+    {
+        let function = own_function(module, function);
+        let zeros = further_locals(module, function);
+        if !self.has_room(arguments.len() + zeros) {
+            return Err(Cause::StackFull);
+        }
+        let start = self.values.len();
+        push_all(&mut self.values, arguments, zeros);
+        self.frames.push(OpenFrame {
+            function,
+            returns: returns(module, function),
+            locals_start: start,
+            locals_end: self.values.len(),
+            labels_start: self.labels.len(),
+            place: Position::start(0),
+        });
+        self.base = start;
+        Ok(())
+    }
+
+    /// An equal thread, with all its room. `AllocError` is want of memory and nothing else.
+    pub fn copy(&self, alloc: Global) -> Result<Thread, AllocError>
+        ensures { IfOk result (λ t. t ≡ self.now) }
+    {
+        Ok(Thread {
+            values: self.values.copy(alloc)?,
+            labels: self.labels.copy(alloc)?,
+            frames: self.frames.copy(alloc)?,
+            globals: Vec::from_slice(alloc, self.globals.as_slice())?,
+            base: self.base,
+            main: self.main,
+            full: self.full,
+        })
+    }
+}
