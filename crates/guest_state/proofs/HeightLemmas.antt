@@ -2,7 +2,7 @@
 use Rattle.std.proofs.Common.{◌≡◌, ℕ, suc, ◌+◌, ◌-◌, ◌<◌, ◌≤◌, List, [], ◌∷◌, ◌++◌, length, take, drop, reverse, refl, sym, ap, ap₂, ◌∙◌, arith, length-append, length-drop}
 use Rattle.std.proofs.Math.ListN.{set}
 use Rattle.std.proofs.Math.Seq.{take-add, take-set-lt}
-use Rattle.std.proofs.lemmas.List.{append_assoc, drop-append-le, drop-drop, drop_at, length-reverse, length-take, reverse-append, set_split, take-append-drop, take_at, take-take}
+use Rattle.std.proofs.lemmas.List.{append_assoc, drop-append-le, drop-drop, drop-take, drop_at, length-reverse, length-take, reverse-append, reverse-reverse, set_split, take-append-drop, take_at, take-take}
 use Rattle.guest_state.specs.Heights.{above, below}
 
 module _ {T : Type 0} where
@@ -79,3 +79,12 @@ module _ {T : Type 0} where
   -- without the last ones
   pub below-last : (count : ℕ) (xs : List T) → count ≤ length xs → below (length xs - count) xs ≡ drop count xs
   below-last count xs h = let e : length xs - (length xs - count) ≡ count = omega arith in rw e refl
+
+  pub range-stack : (low count height : ℕ) (xs : List T) → low + count ≤ height → height ≤ length xs
+      → take count (drop low xs) ≡ reverse (above low (below (low + count) (reverse (take height xs))))
+  range-stack low count height xs h top =
+      let high = low + count in
+      let size : length (take high xs) ≡ high = omega (arith, length-take high xs) in
+      let both : count + low ≡ length (take high xs) = omega (arith, size) in
+      let whole : high - low ≡ count = omega arith in
+      rw (below-stack high height xs h top, length-stack high xs (omega arith), whole, (parts count low (take high xs) both).0, reverse-reverse, drop-take low count xs) refl

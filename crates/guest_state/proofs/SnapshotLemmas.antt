@@ -1,22 +1,22 @@
 -- What a thread stands for after one of its stacks has changed.
-use Rattle.std.proofs.Common.{◌≡◌, ℕ, suc, ◌+◌, ◌-◌, ◌<◌, ◌≤◌, List, [], ◌∷◌, ◌++◌, length, take, drop, reverse, replicate, refl, sym, ap, ap₂, ◌∙◌, arith, length-append, Bool, true, false, Ok, Err, cond, ◌&&◌, sum_by}
+use Rattle.std.proofs.Common.{◌≡◌, ℕ, suc, ◌+◌, ◌-◌, ◌<◌, ◌≤◌, List, [], ◌∷◌, ◌++◌, length, take, drop, reverse, replicate, refl, sym, ap, ap₂, ◌∙◌, arith, length-append, Bool, true, false, Ok, Err, Option, option_to_list, cond, ◌&&◌, sum_by}
 use Rattle.std.specs.Prelude.{nat_le}
-use Rattle.std.proofs.lemmas.List.{append-nil, length-reverse, reverse-reverse}
+use Rattle.std.proofs.lemmas.List.{append-nil, append_assoc, length-reverse, length-drop, length-take, reverse-reverse, take-append-le}
 use Rattle.std.proofs.lemmas.List.Sums.{sum_by-cons}
-use Rattle.wasm_ast.specs.Position.{remaining}
+use Rattle.wasm_ast.specs.Position.{behind, remaining}
 use Rattle.wasm_ast.specs.declared.module.Module.{Module}
 use Rattle.wasm_ast.specs.declared.position.Position.{Position}
 use Rattle.wasm_ast.specs.Sequence.{Sequence}
 use Rattle.guest_state.specs.declared.entries.OpenFrame.{OpenFrame}
 use Rattle.guest_state.specs.declared.entries.OpenLabel.{OpenLabel}
-use Rattle.guest_state.specs.GuestThread.{Frame, GuestThread, Label, first_changed, frame_values, label_values}
+use Rattle.guest_state.specs.GuestThread.{Frame, GuestThread, Label, value_count, first_changed, in_frame, frame_values, label_values}
 use Rattle.guest_state.specs.Heights.{above, below}
-use Rattle.guest_state.specs.Snapshot.{Snapshot, thread_of, height_of, labels_of, frame_at, frames_at, frames_of, first_height}
+use Rattle.guest_state.specs.Snapshot.{Snapshot, thread_of, thread_at, placed, height_of, labels_of, frame_at, frames_of, first_height, operands_of}
 use Rattle.guest_state.specs.Module.{body_of, type_of, result_count, further_locals}
-use Rattle.guest_state.specs.Steps.{entered, has_room, with_frame}
+use Rattle.guest_state.specs.Steps.{answered, arguments_of, entered, has_room, operand_count, over_arguments, taken_count, with_frame, with_operands}
 use Rattle.int_ops.specs.declared.trap.Cause.TheVariants.{StackFull}
 use Rattle.guest_state.specs.Sound.{AreHeights, AreParted}
-use Rattle.guest_state.proofs.HeightLemmas.{above-append, above-top, below-append, below-below, below-top, length-above, length-below}
+use Rattle.guest_state.proofs.HeightLemmas.{above-append, above-top, below-append, below-below, below-last, below-top, drop-above, length-above, length-below}
 
 pub heights_top : (low high : ℕ) (ls : List OpenLabel) → AreHeights low high ls → height_of low ls ≤ high
 heights_top low high [] h = h
@@ -151,3 +151,125 @@ with_frame_ok m n arguments t room = rw room refl
 pub with_frame_full : (m : Module) (n : ℕ) (arguments : List ℕ) (t : GuestThread) → has_room t (length arguments + further_locals m n) ≡ false
     → with_frame m n arguments t ≡ Err StackFull
 with_frame_full m n arguments t room = rw room refl
+
+-- operands in the place of the last ones change nothing else
+pub with_operands_is : (m : Module) (count : ℕ) (new : List ℕ) (s : Snapshot) → AreParted s.frames (length s.values) s.labels → count ≤ length (operands_of s)
+    → thread_of m (record s { values = new ++ drop count s.values }) ≡ in_frame (with_operands count new) (thread_of m s)
+with_operands_is m count new s parted few = ap (λ fs. record (thread_of m s) { frames = fs }) (by_frames s.frames parted few) where
+  by_frames : (fs : List OpenFrame) → AreParted fs (length s.values) s.labels → count ≤ length (above (first_height fs s.labels) s.values)
+      → frames_of m fs (new ++ drop count s.values) s.labels ≡ first_changed (with_operands count new) (frames_of m fs s.values s.labels)
+  by_frames [] p n = refl
+  by_frames (f ∷ fs) p n =
+      let vs = s.values in
+      let ls = s.labels in
+      let order : f.locals_start ≤ f.locals_end = p.0 in
+      let h = level m f vs ls order p.2 in
+      let top : h ≤ length vs = heights_top f.locals_end (length vs) (above f.labels_start ls) p.2 in
+      let low : f.locals_end ≤ h = heights_low f.locals_end (length vs) (above f.labels_start ls) p.2 in
+      let xs = new ++ drop count (above h vs) in
+      let values : new ++ drop count vs ≡ xs ++ below h vs = ap (λ zs. new ++ zs) (drop-above count h vs top n) ∙ sym (append_assoc new (drop count (above h vs)) (below h vs)) in
+      let rest : below f.locals_start (xs ++ below h vs) ≡ below f.locals_start vs = kept m f vs ls order p.2 xs f.locals_start (omega arith) in
+      rw values (ap₂ (λ frame others. frame ∷ others) (other_operands m f vs ls order p.2 f.place xs) (ap (λ zs. frames_of m fs zs (below f.labels_start ls)) rest))
+
+pub parted_operands : (count more : ℕ) (fs : List OpenFrame) (vs : List ℕ) (ls : List OpenLabel) → AreParted fs (length vs) ls → count ≤ length (above (first_height fs ls) vs)
+    → 0 < length fs → AreParted fs (more + (length vs - count)) ls
+parted_operands count more [] vs ls parted few some = absurd (omega arith)
+parted_operands count more (f ∷ fs) vs ls parted few some =
+    let own = above f.labels_start ls in
+    let top : height_of f.locals_end own ≤ length vs = heights_top f.locals_end (length vs) own parted.2 in
+    let size = length-above vs (height_of f.locals_end own) top in
+    (parted.0, parted.1, heights_to f.locals_end (length vs) (more + (length vs - count)) own parted.2 (omega (arith, size)), parted.3)
+
+-- another place of the innermost frame
+pub parted_placed : (place : Position) (fs : List OpenFrame) (height : ℕ) (ls : List OpenLabel) → AreParted fs height ls → AreParted (placed place fs) height ls
+parted_placed place [] height ls parted = parted
+parted_placed place (f ∷ fs) height ls parted = parted
+
+pub operands_placed : (place : Position) (s : Snapshot) → operands_of (record s { frames = placed place s.frames }) ≡ operands_of s
+operands_placed place s = by_frames s.frames where
+  by_frames : (fs : List OpenFrame) → above (first_height (placed place fs) s.labels) s.values ≡ above (first_height fs s.labels) s.values
+  by_frames [] = refl
+  by_frames (f ∷ fs) = refl
+
+pub with_operands_at : (m : Module) (place : Position) (count : ℕ) (new : List ℕ) (s : Snapshot) → AreParted s.frames (length s.values) s.labels → count ≤ length (operands_of s)
+    → thread_at m place (record s { values = new ++ drop count s.values }) ≡ in_frame (with_operands count new) (thread_at m place s)
+with_operands_at m place count new s parted few =
+    with_operands_is m count new (record s { frames = placed place s.frames }) (parted_placed place s.frames (length s.values) s.labels parted)
+    (rw (operands_placed place s) few)
+
+-- operands are values
+pub operands_few : (count height : ℕ) (vs : List ℕ) → count ≤ length (above height vs) → count ≤ length vs
+operands_few count height vs few = omega (arith, length-take (length vs - height) vs)
+
+-- a thread has as many values as its stack
+pub value_count_at : (m : Module) (place : Position) (s : Snapshot) → AreParted s.frames (length s.values) s.labels → value_count (thread_at m place s) ≡ length s.values
+value_count_at m place s parted =
+    frames_values m (placed place s.frames) s.values s.labels (parted_placed place s.frames (length s.values) s.labels parted)
+
+-- a thread with an innermost frame
+module _ (m : Module) (s : Snapshot) (f : OpenFrame) (fs : List OpenFrame) (e : s.frames ≡ f ∷ fs) where
+  pub taken_count_is : (count : ℕ) → taken_count (thread_of m s) count ≡ over_arguments (remaining (body_of m f.function) f.place) + count
+  taken_count_is count = rw e refl
+
+  pub operand_count_is : operand_count (thread_of m s) ≡ length (operands_of s)
+  operand_count_is = rw e refl
+
+  pub arguments_is : (count : ℕ) → arguments_of (thread_of m s) count ≡ reverse (take count (drop (over_arguments (remaining (body_of m f.function) f.place)) (operands_of s)))
+  arguments_is count = rw e refl
+
+  pub answered_is : (count : ℕ) (value : Option ℕ) (place : Position) → remaining (body_of m f.function) place ≡ behind 1 (remaining (body_of m f.function) f.place)
+      → in_frame (with_operands (over_arguments (remaining (body_of m f.function) f.place) + count) (option_to_list value)) (thread_at m place s)
+      ≡ in_frame (answered count value) (thread_of m s)
+  answered_is count value place code = rw (e, code) refl
+
+-- a range of the values under the last ones
+pub range_is : (over count height : ℕ) (vs : List ℕ) → height ≤ length vs → over + count ≤ length (above height vs)
+    → above (length vs - (over + count)) (below (length vs - (over + count) + count) vs) ≡ take count (drop over (above height vs))
+range_is over count height vs h few =
+    let all : over + count ≤ length vs = operands_few (over + count) height vs few in
+    let end : length vs - (over + count) + count ≡ length vs - over = omega arith in
+    let size : length (drop over vs) - (length vs - (over + count)) ≡ count = omega (arith, length-drop over vs) in
+    rw (end, below-last over vs (omega arith), size)
+    (ap (take count) (drop-above over height vs h (omega arith)) ∙ take-append-le count (drop over (above height vs)) (below height vs) (omega (arith, length-drop over (above height vs))))
+
+pub first_height_top : (fs : List OpenFrame) (height : ℕ) (ls : List OpenLabel) → AreParted fs height ls → first_height fs ls ≤ height
+first_height_top [] height ls parted = omega arith
+first_height_top (f ∷ fs) height ls parted = heights_top f.locals_end height (above f.labels_start ls) parted.2
+
+pub first_is : {T : Type 0} (xs : List T) → 0 < length xs → (x : T) × (rest : List T) × (xs ≡ x ∷ rest)
+first_is [] some = absurd (omega arith)
+first_is (x ∷ xs) some = (x, xs, refl)
+
+-- what the call, wait or notify takes at which a thread stands
+pub record Takes (s : Snapshot) (taken count : ℕ) : Type 0 where
+  pub operands : taken ≤ length (operands_of s)
+  pub values : taken ≤ length s.values
+  pub more : count ≤ taken
+
+pub takes_is : (m : Module) (s : Snapshot) (count : ℕ) → 0 < length s.frames → taken_count (thread_of m s) count ≤ operand_count (thread_of m s) → Takes s (taken_count (thread_of m s) count) count
+takes_is m s count some stands =
+    let first = first_is s.frames some in
+    let taken = taken_count_is m s first.0 first.1 first.2 count in
+    let operands = operand_count_is m s first.0 first.1 first.2 in
+    let few : taken_count (thread_of m s) count ≤ length (operands_of s) = omega (arith, operands, stands) in
+    record { operands = few; values = operands_few (taken_count (thread_of m s) count) _ s.values few; more = omega (arith, taken) }
+
+pub arguments_law : (m : Module) (s : Snapshot) (count : ℕ) → AreParted s.frames (length s.values) s.labels → 0 < length s.frames → taken_count (thread_of m s) count ≤ operand_count (thread_of m s)
+    → reverse (above (length s.values - taken_count (thread_of m s) count) (below (length s.values - taken_count (thread_of m s) count + count) s.values)) ≡ arguments_of (thread_of m s) count
+arguments_law m s count parted some stands =
+    let first = first_is s.frames some in
+    let over = over_arguments (remaining (body_of m first.0.function) first.0.place) in
+    let taken : taken_count (thread_of m s) count ≡ over + count = taken_count_is m s first.0 first.1 first.2 count in
+    let few : over + count ≤ length (operands_of s) = omega (arith, taken, operand_count_is m s first.0 first.1 first.2, stands) in
+    rw (taken, arguments_is m s first.0 first.1 first.2 count)
+    (ap reverse (range_is over count (first_height s.frames s.labels) s.values (first_height_top s.frames (length s.values) s.labels parted) few))
+
+pub answer_law : (m : Module) (s : Snapshot) (f : OpenFrame) (fs : List OpenFrame) (count : ℕ) (value : Option ℕ) (place : Position) → s.frames ≡ f ∷ fs
+    → remaining (body_of m f.function) place ≡ behind 1 (remaining (body_of m f.function) f.place)
+    → AreParted s.frames (length s.values) s.labels → taken_count (thread_of m s) count ≤ operand_count (thread_of m s)
+    → thread_at m place (record s { values = option_to_list value ++ drop (taken_count (thread_of m s) count) s.values }) ≡ in_frame (answered count value) (thread_of m s)
+answer_law m s f fs count value place e code parted stands =
+    let over = over_arguments (remaining (body_of m f.function) f.place) in
+    let taken : taken_count (thread_of m s) count ≡ over + count = taken_count_is m s f fs e count in
+    let few : over + count ≤ length (operands_of s) = omega (arith, taken, operand_count_is m s f fs e, stands) in
+    rw taken (with_operands_at m place (over + count) (option_to_list value) s parted few ∙ answered_is m s f fs e count value place code)

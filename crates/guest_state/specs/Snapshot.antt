@@ -57,18 +57,17 @@ frames_of m [] values labels = []
 frames_of m (f ∷ fs) values labels =
     frame_at m f f.place values labels ∷ frames_of m fs (below f.locals_start values) (below f.labels_start labels)
 
--- the frames, the innermost at this place
-abbrev pub frames_at : Module → Position → List OpenFrame → List ℕ → List OpenLabel → List Frame
-frames_at m place [] values labels = []
-frames_at m place (f ∷ fs) values labels =
-    frame_at m f place values labels ∷ frames_of m fs (below f.locals_start values) (below f.labels_start labels)
-
--- the thread that a snapshot stands for, and the same with the innermost frame at another place
+-- the thread that a snapshot stands for
 abbrev pub thread_of : Module → Snapshot → GuestThread
 thread_of m s = record { frames = frames_of m s.frames s.values s.labels; globals = s.globals; main = s.main; full = s.full }
 
+-- the same with the innermost frame at another place
+abbrev pub placed : Position → List OpenFrame → List OpenFrame
+placed place [] = []
+placed place (f ∷ fs) = record f { place = place } ∷ fs
+
 abbrev pub thread_at : Module → Position → Snapshot → GuestThread
-thread_at m place s = record { frames = frames_at m place s.frames s.values s.labels; globals = s.globals; main = s.main; full = s.full }
+thread_at m place s = thread_of m (record s { frames = placed place s.frames })
 
 -- where the operands begin that stand in the innermost block of the innermost frame, and these operands
 abbrev pub first_height : List OpenFrame → List OpenLabel → ℕ

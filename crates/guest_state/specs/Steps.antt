@@ -2,6 +2,7 @@
 use Rattle.std.specs.Prelude.{ℕ, suc, ◌+◌, ◌&&◌, nat_le, Bool, false, if◌then◌else◌, List, [], ◌∷◌, ◌++◌, length, take, drop, reverse, replicate, slice_get, slice_set, Option, Some, None, option_to_list, Result, Ok, Err}
 use Rattle.int_ops.specs.declared.trap.Cause.{Cause}
 use Rattle.int_ops.specs.declared.trap.Cause.TheVariants.{StackFull}
+use Rattle.wasm_ast.specs.declared.instr.Instr.{Instr}
 use Rattle.wasm_ast.specs.declared.instr.Instr.TheVariants as instr
 use Rattle.wasm_ast.specs.declared.module.Module.{Module}
 use Rattle.wasm_ast.specs.Position.{behind}
@@ -19,15 +20,9 @@ most_values = 65536
 abbrev pub most_labels : ℕ
 most_labels = 16384
 
--- operands: one more, without the last ones, and one in the place of the last ones
-abbrev pub with_operand : ℕ → Frame → Frame
-with_operand value f = record f { operands = value ∷ f.operands }
-
-abbrev pub without_operands : ℕ → Frame → Frame
-without_operands count f = record f { operands = drop count f.operands }
-
-abbrev pub with_operands_replaced : ℕ → ℕ → Frame → Frame
-with_operands_replaced count value f = record f { operands = value ∷ drop count f.operands }
+-- operands in the place of so many last ones
+abbrev pub with_operands : ℕ → List ℕ → Frame → Frame
+with_operands count new f = record f { operands = new ++ drop count f.operands }
 
 -- a local (4.4.3)
 abbrev pub with_local : ℕ → ℕ → Frame → Frame
@@ -107,8 +102,12 @@ started m n arguments main = record { frames = entered m n arguments ∷ []; glo
 
 -- What stands on the stack above the arguments of the call at which a frame stands: of an indirect call, the number in the
 -- table.
+abbrev pub over_instruction : Instr → ℕ
+over_instruction (instr.CallIndirect t) = 1
+over_instruction i = 0
+
 abbrev pub over_arguments : Sequence → ℕ
-over_arguments (Plain (instr.CallIndirect t) rest) = 1
+over_arguments (Plain i rest) = over_instruction i
 over_arguments s = 0
 
 -- the arguments of the call, wait or notify at which the thread stands, in the order of the parameters
@@ -120,8 +119,24 @@ abbrev pub arguments_of : GuestThread → ℕ → List ℕ
 arguments_of thread count = frame_arguments thread.frames count
 
 -- behind it, with its answer in the place of its operands
-abbrev pub frame_answered : ℕ → Option ℕ → Frame → Frame
-frame_answered count value f = record f {
+abbrev pub answered : ℕ → Option ℕ → Frame → Frame
+answered count value f = record f {
   operands = option_to_list value ++ drop (over_arguments f.code + count) f.operands;
   code = behind 1 f.code;
 }
+
+-- how many operands the innermost block has from which an instruction may take, and how many of them the call, wait or
+-- notify of so many arguments takes
+abbrev pub frames_operands : List Frame → ℕ
+frames_operands [] = 0
+frames_operands (f ∷ fs) = length f.operands
+
+abbrev pub frames_taken : List Frame → ℕ → ℕ
+frames_taken [] count = count
+frames_taken (f ∷ fs) count = over_arguments f.code + count
+
+abbrev pub operand_count : GuestThread → ℕ
+operand_count thread = frames_operands thread.frames
+
+abbrev pub taken_count : GuestThread → ℕ → ℕ
+taken_count thread count = frames_taken thread.frames count

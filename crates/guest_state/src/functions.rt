@@ -1,9 +1,12 @@
 // What a thread takes from its module.
-ghost use Rattle.std.specs.Prelude.{◌≡◌, ◌+◌, ◌<◌, ◌^◌, if◌then◌else◌, length, IfOk};
+ghost use Rattle.std.specs.Prelude.{◌≡◌, ◌+◌, ◌<◌, ◌^◌, if◌then◌else◌, length, IfOk, IsSome, option_copied};
 ghost use Rattle.wasm_ast.specs.TypingModule.{functions_of, globals_of};
 ghost use Rattle.wasm_ast.specs.Locals.{total};
-ghost use Rattle.guest_state.specs.Module.{own_function, type_of, further_locals, first_globals, result_count, constant_value, instruction_constant};
+ghost use Rattle.wasm_ast.specs.Position.{BeginsWith, behind, remaining};
+ghost use Rattle.guest_state.specs.Steps.{over_arguments, over_instruction};
+ghost use Rattle.guest_state.specs.Module.{body_of, own_function, type_of, further_locals, first_globals, result_count, constant_value, instruction_constant};
 
+use super::entries::OpenFrame;
 use std::alloc::{AllocError, Global};
 use wasm_ast::{Body, Import, ImportKind, Instr, LocalGroup, Module, Position};
 
@@ -111,4 +114,45 @@ pub fn first_globals(alloc: Global, module: &Module) -> Result<Vec<u64>, AllocEr
         values.push(constant_value(&global.init))?;
     }
     Ok(values)
+}
+
+/// The instruction at which a frame stands, if it isn't at the end of a list.
+fn instruction(module: &Module, frame: OpenFrame) -> Option<&Instr>
+    ensures value { BeginsWith (body_of «module».now frame.function) frame.place (option_copied result) }
+    ensures room { IsSome result → frame.place.index + 1 < 2 ^ 64 }
+{
+    match module.codes.as_slice().get(frame.function as usize) {
+        Some(code) => code.body.at(frame.place),
+        None => None,
+    }
+}
+
+/// How many operands stand above the arguments of an instruction.
+fn over_instruction(instr: &Instr) -> usize
+    ensures { result ≡ over_instruction instr.now }
+{
+    match instr {
+        Instr::CallIndirect(_) => 1,
+        _ => 0,
+    }
+}
+
+/// How many operands stand above the arguments at the place of a frame.
+pub fn over_arguments(module: &Module, frame: OpenFrame) -> usize
+    ensures { result ≡ over_arguments (remaining (body_of «module».now frame.function) frame.place) }
+{
+    match instruction(module, frame) {
+        Some(instr) => over_instruction(instr),
+        None => 0,
+    }
+}
+
+/// The place behind the next instruction of a frame, if there is one.
+pub fn behind_instruction(module: &Module, frame: OpenFrame) -> Position
+    ensures { remaining (body_of «module».now frame.function) result ≡ behind 1 (remaining (body_of «module».now frame.function) frame.place) }
+{
+    match instruction(module, frame) {
+        Some(_) => frame.place.next(),
+        None => frame.place,
+    }
 }

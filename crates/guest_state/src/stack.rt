@@ -1,5 +1,5 @@
 // A stack whose room is taken when it is made.
-ghost use Rattle.std.specs.Prelude.{◌≡◌, ◌+◌, ◌<◌, ◌≤◌, ◌-◌, [], ◌∷◌, ◌++◌, reverse, replicate, length, drop, IfOk, Some, slice_get, slice_set};
+ghost use Rattle.std.specs.Prelude.{◌≡◌, ◌+◌, ◌<◌, ◌≤◌, ◌-◌, [], ◌∷◌, ◌++◌, reverse, replicate, length, drop, IfOk, Some, option_to_list, slice_get, slice_set};
 ghost use Rattle.std.specs.Bool.{OnTrue, OnFalse};
 ghost use Rattle.guest_state.specs.Heights.{above, below};
 
@@ -84,6 +84,16 @@ impl<T: Copy> Stack<T> {
         self.items[height]
     }
 
+    /// So many elements from a height on, the first pushed first.
+    pub fn range(&self, low: usize, count: usize) -> &[T]
+        requires { low + count ≤ length self.now.items }
+        ensures { result.now ≡ reverse (above low (below (low + count) self.now.items)) }
+    {
+        let items = self.items.as_slice();
+        prove!(low + count <= items.len());
+        &items[low..low + count]
+    }
+
     /// Replaces the element that has so many below it.
     #[inline(always)]
     pub fn set(&mut self, height: usize, item: T)
@@ -123,5 +133,15 @@ pub fn push_all(stack: &mut Stack<u64>, numbers: &[u64], zeros: usize)
     }
     for _zero in 0..zeros {
         stack.push(0);
+    }
+}
+
+/// Puts a number on a stack, if there is one.
+pub fn push_option(stack: &mut Stack<u64>, number: Option<u64>)
+    requires { length stack.old.items + length (option_to_list number) ≤ stack.old.room }
+    ensures { stack.new ≡ record stack.old { items = option_to_list number ++ stack.old.items } }
+{
+    if let Some(number) = number {
+        stack.push(number);
     }
 }

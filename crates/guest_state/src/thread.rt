@@ -1,14 +1,19 @@
 // A guest thread, and what is done to it from outside the interpreter.
-ghost use Rattle.std.specs.Prelude.{◌≡◌, ◌+◌, ◌≤◌, ◌<◌, length, [], IfOk, OnOk, OnErr, IfErr, Ok, Err, true};
+ghost use Rattle.std.specs.Prelude.{◌≡◌, ◌+◌, ◌-◌, ◌≤◌, ◌<◌, length, [], IfOk, OnOk, OnErr, IfErr, Ok, Err, ◌∷◌, drop, option_to_list, true};
 ghost use Rattle.guest_state.specs.Module.{own_function, type_of, further_locals, first_globals, result_count};
-ghost use Rattle.guest_state.specs.Snapshot.{thread_of};
-ghost use Rattle.guest_state.specs.Steps.{started, with_frame, has_room};
+ghost use Rattle.guest_state.specs.Snapshot.{placed, thread_of};
+ghost use Rattle.guest_state.specs.GuestThread.{in_frame, value_count};
+ghost use Rattle.guest_state.specs.Steps.{started, with_frame, has_room, taken_count, operand_count, arguments_of, answered};
 ghost use Rattle.std.specs.Bool.{OnTrue};
 ghost use Rattle.wasm_ast.specs.declared.module.Module.{Module};
 
+mod steps;
+
 use super::entries::{OpenFrame, OpenLabel};
-use super::functions::{first_globals, further_locals, own_function, returns};
-use super::stack::{Stack, push_all};
+use super::functions::{
+    behind_instruction, first_globals, further_locals, over_arguments, own_function, returns,
+};
+use super::stack::{Stack, push_all, push_option};
 use int_ops::Cause;
 use std::alloc::{AllocError, Global};
 use std::marker::Model;
@@ -94,6 +99,25 @@ impl Thread {
         })
     }
 
+    // The innermost frame.
+    #[inline(always)]
+    fn innermost(&self) -> OpenFrame
+        requires { 0 < length self.now.frames }
+        ensures { self.now.frames ≡ result ∷ drop 1 self.now.frames }
+    {
+        self.frames.at(self.frames.len() - 1)
+    }
+
+    // Another place of the innermost frame.
+    #[inline(always)]
+    fn place_innermost(&mut self, place: Position)
+        requires { 0 < length self.old.frames }
+        ensures { self.new ≡ record self.old { frames = placed place self.old.frames } }
+    {
+        let frame = self.innermost();
+        self.frames.set(self.frames.len() - 1, OpenFrame { place, ..frame });
+    }
+
     /// Whether it was started as a main thread, whose end ends its process. A copy has the same answer.
     pub fn main(&self) -> bool
         ensures { result ≡ self.now.main }
@@ -149,6 +173,44 @@ impl Thread {
         });
         self.base = start;
         Ok(())
+    }
+
+    // How many values stand below the arguments of the call, wait or notify of `count` arguments at which the thread stands.
+    fn below_arguments(&self, module: &Module, count: usize) -> usize
+        requires some { 0 < length self.now.frames }
+        requires stands { taken_count (thread_of «module».now self.now) count ≤ operand_count (thread_of «module».now self.now) }
+        ensures value { result ≡ length self.now.values - taken_count (thread_of «module».now self.now) count }
+        ensures within { result + count ≤ length self.now.values }
+    {
+        let over = over_arguments(module, self.innermost());
+        self.values.len() - over - count
+    }
+
+    /// The arguments of the call, wait or notify of `count` arguments at which the thread stands, in the order of
+    /// the parameters: the last operands, or at a `call_indirect` those below the number in the table.
+    pub fn arguments(&self, module: &Module, count: usize) -> &[u64]
+        requires some { 0 < length self.now.frames }
+        requires stands { taken_count (thread_of «module».now self.now) count ≤ operand_count (thread_of «module».now self.now) }
+        ensures { result.now ≡ arguments_of (thread_of «module».now self.now) count }
+    {
+        let low = self.below_arguments(module, count);
+        self.values.range(low, count)
+    }
+
+    /// Answers the call, wait or notify of `count` arguments at which the thread stands: the value, if any, takes
+    /// the place of the arguments and, at a `call_indirect`, of the number in the table, and the thread stands
+    /// behind it. No memory is taken.
+    pub fn answer(&mut self, module: &Module, count: usize, value: Option<u64>)
+        requires some { 0 < length self.old.frames }
+        requires stands { taken_count (thread_of «module».now self.old) count ≤ operand_count (thread_of «module».now self.old) }
+        requires room { value_count (thread_of «module».now self.old) + length (option_to_list value) ≤ 65536 + taken_count (thread_of «module».now self.old) count }
+        ensures { thread_of «module».now self.new ≡ in_frame (answered count value) (thread_of «module».now self.old) }
+    {
+        let place = behind_instruction(module, self.innermost());
+        let low = self.below_arguments(module, count);
+        self.values.keep(low);
+        push_option(&mut self.values, value);
+        self.place_innermost(place);
     }
 
     /// An equal thread, with all its room. `AllocError` is want of memory and nothing else.
