@@ -1,2 +1,3 @@
+pub mod FitsLemmas
 pub mod HeightLemmas
 pub mod SnapshotLemmas

@@ -2,7 +2,6 @@
 -- over the operands there, and each frame's result is what the frame below waits for.
 use Rattle.std.specs.Prelude.{◌≡◌, ℕ, ◌+◌, ◌<◌, ◌^◌, Bool, true, false, List, [], ◌∷◌, ◌++◌, length, map, replicate, slice_get, Option, Some, None, option_and_then, option_to_list}
 use Rattle.wasm_ast.specs.declared.types.ValType.{ValType}
-use Rattle.wasm_ast.specs.declared.types.ValType.TheVariants.{I32, I64, F32, F64}
 use Rattle.wasm_ast.specs.declared.types.FuncType.{FuncType}
 use Rattle.wasm_ast.specs.declared.locals.LocalGroup.{LocalGroup}
 use Rattle.wasm_ast.specs.declared.module.Code.{Code}
@@ -11,14 +10,11 @@ use Rattle.wasm_ast.specs.Sequence.{Sequence}
 use Rattle.wasm_ast.specs.Typing.{Context, Labels, Operands, given, leaves, typed}
 use Rattle.wasm_ast.specs.TypingModule.{context_of, in_function}
 use Rattle.guest_state.specs.GuestThread.{Label, Frame, GuestThread}
-use Rattle.guest_state.specs.Module.{type_of}
+use Rattle.guest_state.specs.Module.{type_bits, type_of}
 
 -- a value of a type, as the bits of the number
 abbrev pub HasType : ValType → ℕ → Type 0
-HasType I32 value = value < 2 ^ 32
-HasType I64 value = value < 2 ^ 64
-HasType F32 value = value < 2 ^ 32
-HasType F64 value = value < 2 ^ 64
+HasType t value = value < 2 ^ type_bits t
 
 -- as many values as types, each of its type
 abbrev pub HaveTypes : List ValType → List ℕ → Type 0
@@ -86,3 +82,11 @@ FitFrames m awaited (f ∷ fs) = FitsFrame m awaited f × FitFrames m (result_of
 pub record Fits (m : Module) (thread : GuestThread) : Type 0 where
   pub frames : FitFrames m None thread.frames
   pub globals : HaveTypes (map (λ g. g.0) (context_of m).globals) thread.globals
+
+-- the module's own function of that number takes these arguments
+pub record Accepts (m : Module) (function : ℕ) (arguments : List ℕ) : Type 0 where
+  pub code : Code
+  pub its_code : slice_get m.codes function ≡ Some code
+  pub type : FuncType
+  pub its_type : type_of m function ≡ Some type
+  pub values : HaveTypes type.params arguments

@@ -4,11 +4,11 @@ ghost use Rattle.wasm_ast.specs.TypingModule.{functions_of, globals_of};
 ghost use Rattle.wasm_ast.specs.Locals.{total};
 ghost use Rattle.wasm_ast.specs.Position.{BeginsWith, behind, remaining};
 ghost use Rattle.guest_state.specs.Steps.{over_arguments, over_instruction};
-ghost use Rattle.guest_state.specs.Module.{body_of, own_function, type_of, further_locals, first_globals, result_count, constant_value, instruction_constant};
+ghost use Rattle.guest_state.specs.Module.{body_of, own_function, type_of, further_locals, first_globals, result_count, constant_value, first_value, instruction_constant};
 
 use super::entries::OpenFrame;
 use std::alloc::{AllocError, Global};
-use wasm_ast::{Body, Import, ImportKind, Instr, LocalGroup, Module, Position};
+use wasm_ast::{Body, GlobalVar, Import, ImportKind, Instr, LocalGroup, Module, Position, ValType};
 
 /// How many of the imports are functions.
 fn imported_functions(imports: &[Import]) -> usize
@@ -104,6 +104,17 @@ fn constant_value(init: &Body) -> u64
     }
 }
 
+/// The first value of a global.
+fn first_value(global: &GlobalVar) -> u64
+    ensures { result ≡ first_value global.now }
+{
+    let value = constant_value(&global.init);
+    match global.of {
+        ValType::I32 | ValType::F32 => value % 0x1_0000_0000,
+        ValType::I64 | ValType::F64 => value,
+    }
+}
+
 /// The first values of a module's globals. `AllocError` is want of memory and nothing else.
 pub fn first_globals(alloc: Global, module: &Module) -> Result<Vec<u64>, AllocError>
     ensures { IfOk result (λ v. v.items ≡ first_globals «module».now) }
@@ -111,7 +122,7 @@ pub fn first_globals(alloc: Global, module: &Module) -> Result<Vec<u64>, AllocEr
     let imported = imported_globals(module.imports.as_slice());
     let mut values = vec![in alloc; 0; imported]?;
     for global in module.globals.as_slice() {
-        values.push(constant_value(&global.init))?;
+        values.push(first_value(global))?;
     }
     Ok(values)
 }

@@ -1,6 +1,8 @@
 // A guest thread, and what is done to it from outside the interpreter.
-ghost use Rattle.std.specs.Prelude.{◌≡◌, ◌+◌, ◌-◌, ◌≤◌, ◌<◌, length, [], IfOk, OnOk, OnErr, IfErr, Ok, Err, ◌∷◌, drop, option_to_list, true};
+ghost use Rattle.std.specs.Prelude.{◌≡◌, ◌+◌, ◌-◌, ◌≤◌, ◌<◌, length, [], IfOk, OnOk, OnErr, IfErr, Ok, Err, ◌∷◌, drop, option_to_list, true, None};
 ghost use Rattle.guest_state.specs.Module.{own_function, type_of, further_locals, first_globals, result_count};
+ghost use Rattle.wasm_ast.specs.TypingModule.{is_typed};
+ghost use Rattle.guest_state.specs.Fits.{Accepts, Fits, result_of};
 ghost use Rattle.guest_state.specs.Snapshot.{placed, thread_of};
 ghost use Rattle.guest_state.specs.GuestThread.{in_frame, value_count};
 ghost use Rattle.guest_state.specs.Steps.{started, with_frame, has_room, taken_count, operand_count, arguments_of, answered};
@@ -42,7 +44,9 @@ pub struct Thread {
 }
 
 impl Model for Thread {
-    ghost use Rattle.guest_state.specs.Snapshot.{Snapshot};
+    ghost use Rattle.wasm_ast.specs.TypingModule.{is_typed};
+ghost use Rattle.guest_state.specs.Fits.{Accepts, Fits, result_of};
+ghost use Rattle.guest_state.specs.Snapshot.{Snapshot};
     ghost use Rattle.guest_state.specs.Sound.{IsSound};
 
     ghost Value = { Snapshot };
@@ -64,7 +68,8 @@ impl Thread {
         main: bool,
     ) -> Result<Thread, AllocError>
         requires { length arguments.now + further_locals «module».now (own_function «module».now function) ≤ 65536 }
-        ensures { IfOk result (λ t. thread_of «module».now t ≡ started «module».now (own_function «module».now function) arguments.now main) }
+        ensures value { IfOk result (λ t. thread_of «module».now t ≡ started «module».now (own_function «module».now function) arguments.now main) }
+        ensures fits { IfOk result (λ t. is_typed «module».now ≡ true → Accepts «module».now (own_function «module».now function) arguments.now → Fits «module».now (thread_of «module».now t)) }
     {
         let function = own_function(module, function);
         let filler = Position::start(0);
@@ -127,7 +132,8 @@ impl Thread {
 
     /// Marks that a handler's frame found no room, so that the next step traps.
     pub fn mark_full(&mut self)
-        ensures { self.new ≡ record self.old { full = true } }
+        ensures value { self.new ≡ record self.old { full = true } }
+        ensures fits { (m : Module) → Fits m (thread_of m self.old) → Fits m (thread_of m self.new) }
     {
         self.full = true;
     }
@@ -155,6 +161,7 @@ impl Thread {
         ensures ok { OnOk result (with_frame «module».now (own_function «module».now function) arguments.now (thread_of «module».now self.old) ≡ Ok (thread_of «module».now self.new)) }
         ensures err { IfErr result (λ cause. with_frame «module».now (own_function «module».now function) arguments.now (thread_of «module».now self.old) ≡ Err cause) }
         ensures unchanged { OnErr result (self.new ≡ self.old) }
+        ensures fits { OnOk result (is_typed «module».now ≡ true → Accepts «module».now (own_function «module».now function) arguments.now → result_of «module».now (own_function «module».now function) ≡ None → Fits «module».now (thread_of «module».now self.old) → Fits «module».now (thread_of «module».now self.new)) }
     {
         let function = own_function(module, function);
         let zeros = further_locals(module, function);

@@ -1,9 +1,10 @@
 use Rattle.std.proofs.Common.{◌≡◌, ◌+◌, ◌∷◌, List, length, true, false, Result, Ok, Err, sym, ap, ◌∙◌, arith}
 use Rattle.int_ops.specs.declared.trap.Cause.{Cause}
 use Rattle.guest_state.specs.GuestThread.{GuestThread, Frame}
-use Rattle.guest_state.specs.Module.{further_locals}
+use Rattle.guest_state.specs.Module.{further_locals, own_function}
 use Rattle.guest_state.specs.Snapshot.{Snapshot, thread_of, frames_of}
 use Rattle.guest_state.specs.Steps.{entered, has_room, with_frame}
+use Rattle.guest_state.proofs.FitsLemmas.{with_frame_fits}
 use Rattle.guest_state.proofs.SnapshotLemmas.{entered_frames, with_frame_ok, with_frame_full}
 use Rattle.guest_state.proofs.thread.Thread.push_frame.Goals as goal
 
@@ -21,3 +22,8 @@ returns-clause-ok c =
     let pushed : List Frame → Result GuestThread Cause = λ fs. Ok (record thread { frames = fs }) in
     rw (← c.self.view_is, c.push.ensures, c.push_all.ensures, c.further_locals-zeros.ensures.value)
     (ap (λ k. with_frame m k arguments thread) (sym c.own_function-function.ensures) ∙ with_frame_ok m n arguments thread (sym room) ∙ ap pushed (sym frames))
+
+pub returns-clause-fits : goal.returns-clause-fits
+returns-clause-fits c typed accepts none fits =
+    let m = c.args.module.now in
+    with_frame_fits m (own_function m c.args.function) c.args.arguments.now (thread_of m c.args.self.now) _ (returns-clause-ok c) typed accepts none fits
