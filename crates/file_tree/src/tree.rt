@@ -1,0 +1,188 @@
+// The tree, and its calls.
+ghost use Rattle.std.specs.Prelude.{◌≡◌, ◌<◌, ◌^◌, IsTrue, IfOk, length};
+ghost use Rattle.file_tree.specs.Answers.{Gives, Leaves, Changes, Tells};
+ghost use Rattle.file_tree.specs.FileTree as spec;
+ghost use Rattle.file_tree.specs.Walk.{lookup, find};
+ghost use Rattle.file_tree.specs.Names.{create, mkdir, unlink, rmdir, rename};
+ghost use Rattle.file_tree.specs.Files.{read_at, count_read, filled, write_at, set_size};
+ghost use Rattle.file_tree.specs.Listings.{stat, list, path_of};
+
+use crate::listing::{Listing, Stat};
+use path_walk::Parts;
+use std::alloc::{AllocError, Global};
+use std::collections::BTreeMap;
+use std::marker::Model;
+use tree_nodes::Node;
+use wx_types::{Bytes, Errno, Refusal};
+
+/// A file tree in memory. Contracts see it as a finite map from the numbers of its nodes to a file's
+/// bytes or a directory's names, and the number that the next new node is given.
+///
+/// The walk of a path comes before a call's own refusals: each component but the last must name a
+/// directory (`Noent` where it names nothing, `Notdir` where it names a file). `..` leads to the
+/// parent, at the root to the root, and is `Noent` in a removed directory. Where the path must name a
+/// directory and names a file, the walk is `Notdir`. A node number that names no node is `Noent`.
+///
+/// After a refusal, and after want of memory, the tree is unchanged.
+#[derive(Drop)]
+pub struct Tree {
+    nodes: BTreeMap<u32, Node>,
+    next: u64,
+    bytes: u64,
+}
+
+impl Model for Tree {
+    ghost use Rattle.file_tree.specs.FileTree.{FileTree, tree_code};
+    ghost use Rattle.std.specs.FinMap.{from_entries};
+
+    ghost Value = { FileTree };
+
+    ghost coded = { tree_code };
+
+    ghost view = { λ a. record { nodes = from_entries a.nodes.entries; next = a.next } };
+}
+
+impl Tree {
+    /// The root alone, an empty directory with the number 1. `AllocError` is want of memory and
+    /// nothing else.
+    pub fn new(alloc: Global) -> Result<Tree, AllocError>
+        ensures { IfOk result (λ tree. tree ≡ spec.only_root) }
+    {
+        Err(AllocError)
+    }
+
+    /// The node that a path from the directory `from` names. After the walk `Noent` comes where it
+    /// names nothing. No memory is taken.
+    pub fn lookup(&self, from: u32, path: &Parts<'_>) -> Result<u32, Errno>
+        ensures { result ≡ lookup self.now from path.now }
+    {
+        Err(Errno::Noent)
+    }
+
+    /// The node that a path names, or `None` where it names nothing and something could be made there.
+    /// After the walk `Noent` comes where it names nothing and its directory was removed. No memory is
+    /// taken.
+    pub fn find(&self, from: u32, path: &Parts<'_>) -> Result<Option<u32>, Errno>
+        ensures { result ≡ find self.now from path.now }
+    {
+        Err(Errno::Noent)
+    }
+
+    /// Makes an empty file, and gives its number. The refusals after the walk, in their order: `Exist`;
+    /// `Noent` in a removed directory; `Isdir` where the path must name a directory; `Nospc` where there
+    /// are 16,384 nodes or no number up to 4,294,967,295 is left. `Memory` is want of memory.
+    pub fn create(&mut self, alloc: Global, from: u32, path: &Parts<'_>) -> Result<u32, Refusal>
+        ensures { Gives (create self.old from path.now) self.old self.new result }
+    {
+        Err(Refusal::Memory)
+    }
+
+    /// Makes an empty directory, and gives its number. The refusals after the walk, in their order:
+    /// `Exist`; `Noent` in a removed directory; `Nospc` as for `create`. `Memory` is want of memory.
+    pub fn mkdir(&mut self, alloc: Global, from: u32, path: &Parts<'_>) -> Result<u32, Refusal>
+        ensures { Gives (mkdir self.old from path.now) self.old self.new result }
+    {
+        Err(Refusal::Memory)
+    }
+
+    /// Removes a file's name. The refusals after the walk, in their order: `Noent`; `Isdir`. The node
+    /// stays while it is held. No memory is taken.
+    pub fn unlink(&mut self, from: u32, path: &Parts<'_>) -> Result<(), Errno>
+        ensures { Changes (unlink self.old from path.now) self.old self.new result }
+    {
+        Err(Errno::Noent)
+    }
+
+    /// Removes an empty directory. The refusals after the walk, in their order: `Inval` where the path
+    /// is the root or its last component is `.` or `..`; `Noent`; `Notdir`; `Notempty`. The node stays
+    /// while it is held. No memory is taken.
+    pub fn rmdir(&mut self, from: u32, path: &Parts<'_>) -> Result<(), Errno>
+        ensures { Changes (rmdir self.old from path.now) self.old self.new result }
+    {
+        Err(Errno::Noent)
+    }
+
+    /// Gives the node that `old` names, from the directory `from`, the name `new`, from the directory
+    /// `to`. After the walk of the old path and then of the new one the first of these that applies is
+    /// the answer: `Inval` where a path is the root or its last component is `.` or `..`; `Noent` where
+    /// the old path names nothing or the directory of the new one was removed; success with nothing
+    /// changed where both name one node; `Inval` where a directory would go into itself or below;
+    /// `Notdir` where the new path names a file and the old one a directory; `Isdir` where it is the
+    /// other way round; `Notempty` where the new path names a directory with entries; else the node
+    /// moves, and what the new path named is removed. `Memory` is want of memory.
+    pub fn rename(
+        &mut self,
+        alloc: Global,
+        from: u32,
+        old: &Parts<'_>,
+        to: u32,
+        new: &Parts<'_>,
+    ) -> Result<(), Refusal>
+        ensures { Leaves (rename self.old from old.now to new.now) self.old self.new result }
+    {
+        Err(Refusal::Memory)
+    }
+
+    /// Puts the file's bytes from `offset` on at the front of `out`, as many as are there and fit, and
+    /// gives their number. `Isdir` comes for a directory. No memory is taken.
+    pub fn read_at(&self, node: u32, offset: u64, out: &mut [u8]) -> Result<usize, Errno>
+        ensures count { result ≡ count_read (read_at self.now node offset (length out.old)) }
+        ensures bytes { out.new ≡ filled out.old (read_at self.now node offset (length out.old)) }
+    {
+        Err(Errno::Noent)
+    }
+
+    /// Puts `bytes` into the file from `offset` on, with zeros in a gap behind its end. A write of no
+    /// bytes changes nothing. The refusals, in their order: `Isdir` for a directory; `Fbig` where the
+    /// file would have more than 67,108,864 bytes; `Nospc` where all files would. `Memory` is want of
+    /// memory.
+    pub fn write_at(&mut self, node: u32, offset: u64, bytes: &[u8]) -> Result<(), Refusal>
+        ensures { Leaves (write_at self.old node offset bytes.now) self.old self.new result }
+    {
+        Err(Refusal::Memory)
+    }
+
+    /// Cuts the file off at `size` bytes, or puts zeros behind its end up to there. The refusals, in
+    /// their order: `Inval` for a directory; `Fbig` where the size is more than 67,108,864; `Nospc`
+    /// where all files would have more than that. `Memory` is want of memory.
+    pub fn set_size(&mut self, node: u32, size: u64) -> Result<(), Refusal>
+        ensures { Leaves (set_size self.old node size) self.old self.new result }
+    {
+        Err(Refusal::Memory)
+    }
+
+    /// A directory's names in the order of their bytes, with their nodes. `Notdir` comes for a file.
+    /// `Memory` is want of memory.
+    pub fn list(&self, alloc: Global, node: u32) -> Result<Listing, Refusal>
+        ensures { Tells (list self.now node) result }
+    {
+        Err(Refusal::Memory)
+    }
+
+    /// The node's kind, its size, and whether a directory names it; `None` exactly where it isn't there.
+    pub fn stat(&self, node: u32) -> Option<Stat>
+        ensures { result ≡ stat self.now node }
+    {
+        None
+    }
+
+    /// The absolute path of the node. `Noent` comes where it was removed. `Memory` is want of memory.
+    pub fn path_of(&self, alloc: Global, node: u32) -> Result<Bytes, Refusal>
+        ensures { Tells (path_of self.now node) result }
+    {
+        Err(Refusal::Memory)
+    }
+
+    /// One more open description or current directory holds the node, which stays until it is let go.
+    pub fn hold(&mut self, node: u32)
+        requires there { IsTrue (spec.is_there self.old node) }
+        requires room { spec.holds_of self.old node < 4294967295 }
+        ensures { self.new ≡ spec.hold self.old node }
+    {}
+
+    /// One fewer holds the node. An unlinked one goes with the last.
+    pub fn release(&mut self, node: u32)
+        requires { 0 < spec.holds_of self.old node }
+        ensures { self.new ≡ spec.release self.old node }
+    {}
+}
