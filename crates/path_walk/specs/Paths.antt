@@ -1,5 +1,5 @@
 -- Paths and their components (POSIX.1-2017, 3.271 and 4.13).
-use Rattle.std.specs.Prelude.{ℕ, Bool, true, false, not, ◌||◌, ◌==◌, nat_lt, if◌then◌else◌, List, [], ◌∷◌, length, Option, Some, None, MatchOption, is_some, Result, Ok, Err}
+use Rattle.std.specs.Prelude.{ℕ, Bool, true, false, not, ◌||◌, ◌==◌, nat_lt, if◌then◌else◌, List, [], ◌∷◌, length, Option, Some, None, Result, Ok, Err}
 use Rattle.std.specs.List.{filter, list_any, last_or}
 use Rattle.std.specs.Str.{bytes_eq, is_utf8}
 use Rattle.wx_types.specs.declared.errors.Errno.{Errno}
@@ -68,9 +68,16 @@ parts_of path = record {
   names = filter is_name (pieces path);
 }
 
+abbrev pub is_long_piece : List ℕ → Bool
+is_long_piece piece = nat_lt 255 (length piece)
+
+abbrev pub any_is_long : List (List ℕ) → Bool
+any_is_long [] = false
+any_is_long (piece ∷ pieces) = is_long_piece piece || any_is_long pieces
+
 -- the path has more than 1,024 bytes, or a component more than 255
 abbrev pub is_too_long : List ℕ → Bool
-is_too_long path = nat_lt 1024 (length path) || list_any (λ piece. nat_lt 255 (length piece)) (pieces path)
+is_too_long path = nat_lt 1024 (length path) || any_is_long (pieces path)
 
 -- the path isn't UTF-8, or has a zero byte
 abbrev pub is_no_text : List ℕ → Bool
