@@ -4,7 +4,9 @@
 mod file_bytes;
 mod names;
 mod node;
+mod nodes;
 
 pub use file_bytes::FileBytes;
 pub use names::{Name, Names};
 pub use node::{Content, Node};
+pub use nodes::Nodes;

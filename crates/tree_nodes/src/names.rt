@@ -3,12 +3,14 @@ ghost use Rattle.std.specs.Prelude.{◌≡◌, ◌==◌, Some, OnOk, OnErr, IfOk
 ghost use Rattle.std.specs.Ordering.{nat_cmp};
 ghost use Rattle.std.specs.Cmp.{partial_equiv_from_equiv};
 ghost use Rattle.std.specs.Cmp.Lexicographic.{slice_cmp, nat_list_eq_equiv, nat_list_cmp_total, texts_ties, texts_po};
-ghost use Rattle.std.specs.FinMap.{empty};
+ghost use Rattle.std.specs.FinMap.{empty, get, insert, remove, len};
+ghost use Rattle.std.specs.BTreeMap.Comparable.{le_lt_trans};
 ghost use Rattle.std.specs.Str.{bytes_eq};
 
 use std::alloc::{AllocError, Global};
 use std::cmp::Ordering;
 use std::collections::BTreeMap;
+use std::collections::btree_map::Comparable;
 use std::marker::Model;
 
 /// A name of a directory. Contracts see it as the list of its bytes. Names are ordered by their bytes.
@@ -89,7 +91,7 @@ pub struct Names {
 }
 
 impl Model for Names {
-    ghost use Rattle.tree_nodes.specs.Codes.{NameMap, coded_names};
+    ghost use Rattle.tree_nodes.specs.Names.{NameMap, coded_names};
     ghost use Rattle.std.specs.FinMap.{from_entries};
 
     ghost Value = { NameMap };
@@ -97,6 +99,18 @@ impl Model for Names {
     ghost coded = { coded_names };
 
     ghost view = { λ a. from_entries a.map.entries };
+}
+
+impl Comparable<Name> for &[u8] {
+    ghost compare = { λ q name. slice_cmp nat_cmp q.now name };
+
+    ghost respects_cmp = { λ q x y. nat_list_cmp_total.congr q.now x y };
+
+    ghost below_greater = { λ q x y. le_lt_trans nat_list_cmp_total q.now x y };
+
+    fn compare(&self, key: &Name) -> Ordering {
+        Ord::cmp(self, &key.as_slice())
+    }
 }
 
 impl Names {
@@ -107,5 +121,36 @@ impl Names {
         Names {
             map: BTreeMap::new(alloc),
         }
+    }
+
+    /// The node that a name leads to.
+    pub fn get(&self, name: &[u8]) -> Option<u32>
+        ensures { result ≡ get self.now name.now }
+    {
+        self.map.get(name).copied()
+    }
+
+    /// Whether there are no names.
+    pub fn is_empty(&self) -> bool
+        ensures { result ≡ (len self.now == 0) }
+    {
+        self.map.len() == 0
+    }
+
+    /// Lets the name lead to the node. `AllocError` is want of memory and nothing else; the names are
+    /// unchanged then. It doesn't come where the name was there.
+    pub fn insert(&mut self, name: Name, node: u32) -> Result<(), AllocError>
+        ensures ok { OnOk result (self.new ≡ insert self.old name node) }
+        ensures err { OnErr result (self.new ≡ self.old) }
+    {
+        self.map.insert(name, node)?;
+        Ok(())
+    }
+
+    /// Removes the name. No memory is taken.
+    pub fn remove(&mut self, name: &[u8])
+        ensures { self.new ≡ remove self.old name.now }
+    {
+        let _ = self.map.remove(name);
     }
 }
