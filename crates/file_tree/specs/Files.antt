@@ -1,6 +1,6 @@
 -- The bytes of files, read and written.
-use Rattle.std.specs.Prelude.{ℕ, Bool, ◌+◌, ◌-◌, ◌==◌, nat_lt, if◌then◌else◌, List, [], ◌++◌, length, take, drop, replicate, Result, Ok, Err}
-use Rattle.file_tree.specs.FileTree.{FileTree, Nodes, most_bytes, bytes_of_all, changed, with_content}
+use Rattle.std.specs.Prelude.{ℕ, Bool, true, ◌+◌, ◌-◌, ◌==◌, nat_lt, if◌then◌else◌, List, [], ◌++◌, length, take, drop, max, Result, Ok, Err}
+use Rattle.file_tree.specs.FileTree.{FileTree, NodeMap, with_nodes, most_bytes, bytes_of_all, changed, with_change, writing, resizing}
 use Rattle.file_tree.specs.Walk.{and_then, content_at, bytes_of}
 use Rattle.tree_nodes.specs.declared.node.Content.{Content}
 use Rattle.tree_nodes.specs.declared.node.Content.TheVariants.{File, Dir}
@@ -8,7 +8,7 @@ use Rattle.wx_types.specs.declared.errors.Errno.{Errno}
 use Rattle.wx_types.specs.declared.errors.Errno.TheVariants.{Fbig, Inval, Nospc}
 
 -- the file's bytes; Isdir for a directory
-abbrev pub bytes_at : Nodes → ℕ → Result (List ℕ) Errno
+abbrev pub bytes_at : NodeMap → ℕ → Result (List ℕ) Errno
 bytes_at nodes number = and_then (content_at nodes number) bytes_of
 
 -- the bytes from an offset on, at most so many
@@ -23,23 +23,17 @@ abbrev pub filled : List ℕ → Result (List ℕ) Errno → List ℕ
 filled buffer (Ok bytes) = bytes ++ drop (length bytes) buffer
 filled buffer (Err error) = buffer
 
--- the bytes cut off, or followed by zeros, at a length
-abbrev pub resized : List ℕ → ℕ → List ℕ
-resized bytes size = take size bytes ++ replicate (size - length bytes) 0
+-- whether a file of so many bytes may end here and then have so many
+abbrev pub room_for : NodeMap → ℕ → ℕ → ℕ → Result Bool Errno
+room_for nodes before end after =
+    if nat_lt most_bytes end then Err Fbig
+    else if nat_lt (most_bytes + before) (bytes_of_all nodes + after) then Err Nospc
+    else Ok true
 
--- the bytes in which these ones stand from an offset on, with zeros in a gap before them
-abbrev pub written : List ℕ → ℕ → List ℕ → List ℕ
-written bytes offset new = resized bytes offset ++ new ++ drop (offset + length new) bytes
-
-abbrev pub with_bytes : FileTree → ℕ → List ℕ → FileTree
-with_bytes tree number bytes = record { nodes = changed tree.nodes number (with_content (File bytes)); next = tree.next }
-
--- the file with other bytes, where they are within the limits of a file and of all files
-abbrev pub fitted : FileTree → ℕ → List ℕ → List ℕ → Result FileTree Errno
-fitted tree number old new =
-    if nat_lt most_bytes (length new) then Err Fbig
-    else if nat_lt most_bytes (bytes_of_all tree.nodes + length new - length old) then Err Nospc
-    else Ok (with_bytes tree number new)
+-- the file changed, where its new end and the bytes of all files are within their limits
+abbrev pub fitted : FileTree → ℕ → (Content → Content) → ℕ → ℕ → ℕ → Result FileTree Errno
+fitted tree number change before end after =
+    and_then (room_for tree.nodes before end after) (λ _. Ok (with_nodes tree (changed tree.nodes number (with_change change))))
 
 abbrev pub is_none : List ℕ → Bool
 is_none bytes = length bytes == 0
@@ -48,12 +42,16 @@ is_none bytes = length bytes == 0
 abbrev pub write_at : FileTree → ℕ → ℕ → List ℕ → Result FileTree Errno
 write_at tree number offset new =
     and_then (bytes_at tree.nodes number) (λ bytes.
-    if is_none new then Ok tree else fitted tree number bytes (written bytes offset new))
+    if is_none new then Ok tree
+    else fitted tree number (writing offset new) (length bytes) (offset + length new) (max (length bytes) (offset + length new)))
 
 abbrev pub file_or_inval : Content → Result (List ℕ) Errno
 file_or_inval (File bytes) = Ok bytes
 file_or_inval (Dir names) = Err Inval
 
+abbrev pub sized_at : NodeMap → ℕ → Result (List ℕ) Errno
+sized_at nodes number = and_then (content_at nodes number) file_or_inval
+
 abbrev pub set_size : FileTree → ℕ → ℕ → Result FileTree Errno
 set_size tree number size =
-    and_then (and_then (content_at tree.nodes number) file_or_inval) (λ bytes. fitted tree number bytes (resized bytes size))
+    and_then (sized_at tree.nodes number) (λ bytes. fitted tree number (resizing size) (length bytes) size size)

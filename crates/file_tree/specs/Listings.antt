@@ -2,11 +2,11 @@
 use Rattle.std.specs.Prelude.{ℕ, zero, suc, Bool, true, false, ◌==◌, if◌then◌else◌, List, [], ◌∷◌, ◌++◌, map, Option, Some, None, is_some, Result, Ok, Err}
 use Rattle.std.specs.Option.{option_map}
 use Rattle.std.specs.FinMap.{get, entries, len}
-use Rattle.file_tree.specs.FileTree.{FileTree, Nodes, root, kind_of, size_of, parent_of, is_linked}
+use Rattle.file_tree.specs.FileTree.{FileTree, NodeMap, root, kind_of, size_of, parent_of, is_linked}
 use Rattle.file_tree.specs.Walk.{and_then, names_at}
 use Rattle.file_tree.specs.declared.listing.Listed.{Listed}
 use Rattle.file_tree.specs.declared.listing.Stat.{Stat}
-use Rattle.tree_nodes.specs.Codes.{NameMap}
+use Rattle.tree_nodes.specs.Names.{NameMap, name_among}
 use Rattle.tree_nodes.specs.declared.node.Node.{Node}
 use Rattle.wx_types.specs.declared.errors.Errno.{Errno}
 use Rattle.wx_types.specs.declared.errors.Errno.TheVariants.{Noent}
@@ -25,24 +25,20 @@ kind_of_node None = RegularFile
 kind_of_node (Some node) = kind_of node.content
 
 -- a name, the node that it leads to, and that node's kind
-abbrev pub listed : Nodes → List ℕ × ℕ → Listed
+abbrev pub listed : NodeMap → List ℕ × ℕ → Listed
 listed nodes entry = record { name = entry.0; node = entry.1; kind = kind_of_node (get nodes entry.1) }
 
 -- a directory's names in the order of their bytes
 abbrev pub list : FileTree → ℕ → Result (List Listed) Errno
 list tree number = and_then (names_at tree.nodes number) (λ names. Ok (map (listed tree.nodes) (entries names)))
 
--- the first name that leads to a node
-abbrev pub name_among : List (List ℕ × ℕ) → ℕ → List ℕ
-name_among [] number = []
-name_among (entry ∷ rest) number = if entry.1 == number then entry.0 else name_among rest number
-
+-- the first name in a directory that leads to a node
 abbrev pub name_for : Result NameMap Errno → ℕ → List ℕ
 name_for (Ok names) number = name_among (entries names) number
 name_for (Err error) number = []
 
 -- the path from the root to a node, a slash before each name, through at most so many directories
-abbrev pub path_down : ℕ → Nodes → ℕ → Option ℕ → List ℕ
+abbrev pub path_down : ℕ → NodeMap → ℕ → Option ℕ → List ℕ
 path_down zero nodes number parent = []
 path_down (suc most) nodes number None = []
 path_down (suc most) nodes number (Some dir) =

@@ -4,8 +4,9 @@ use Rattle.std.specs.Option.{ok_or}
 use Rattle.std.specs.List.{list_any}
 use Rattle.std.specs.FinMap.{insert, empty, len}
 use Rattle.path_walk.specs.Paths.{PathParts}
-use Rattle.file_tree.specs.FileTree.{FileTree, Nodes, root, most_nodes, last_number, new_node, parent_of, is_linked, changed, settled, linked_in, unlinked, named, forgotten}
-use Rattle.file_tree.specs.Walk.{and_then, Place, walk, names_at, content_at, last_name, names_no_entry}
+use Rattle.file_tree.specs.FileTree.{FileTree, NodeMap, with_nodes, root, most_nodes, last_number, new_node, parent_of, is_linked, changed, settled, linked_in, unlinked, named, forgotten}
+use Rattle.file_tree.specs.Walk.{and_then, walk, names_at, content_at, last_name, names_no_entry}
+use Rattle.file_tree.specs.declared.place.Place.{Place}
 use Rattle.tree_nodes.specs.declared.node.Content.{Content}
 use Rattle.tree_nodes.specs.declared.node.Content.TheVariants.{File, Dir}
 use Rattle.wx_types.specs.declared.errors.Errno.{Errno}
@@ -26,7 +27,7 @@ is_full tree = nat_le most_nodes (len tree.nodes) || nat_lt last_number tree.nex
 -- the tree with a new node under this name, and its number
 abbrev pub added : FileTree → ℕ → List ℕ → Content → ℕ × FileTree
 added tree dir name content =
-    (tree.next, record { nodes = named (insert tree.nodes tree.next (new_node dir content)) dir name tree.next; next = tree.next + 1 })
+    (tree.next, record { nodes = insert (named tree.nodes dir name tree.next) tree.next (new_node dir content); next = tree.next + 1 })
 
 -- a new node where the path leads: in a removed directory there is none
 abbrev pub made_at : FileTree → PathParts → Content → Bool → Place → Result (ℕ × FileTree) Errno
@@ -46,11 +47,11 @@ abbrev pub mkdir : FileTree → ℕ → PathParts → Result (ℕ × FileTree) E
 mkdir tree dir path = and_then (walk tree.nodes dir path) (made_at tree path (Dir empty) false)
 
 -- the nodes without a name, and without the node that it named where nothing holds it
-abbrev pub removed : Nodes → ℕ → List ℕ → ℕ → Nodes
+abbrev pub removed : NodeMap → ℕ → List ℕ → ℕ → NodeMap
 removed nodes dir name number = settled (forgotten nodes dir name) number unlinked
 
 abbrev pub taken : FileTree → Place → List ℕ → ℕ → FileTree
-taken tree place name number = record { nodes = removed tree.nodes place.dir name number; next = tree.next }
+taken tree place name number = with_nodes tree (removed tree.nodes place.dir name number)
 
 -- a file's name goes
 abbrev pub unlink : FileTree → ℕ → PathParts → Result FileTree Errno
@@ -71,27 +72,31 @@ rmdir tree dir path =
     else if not (has_no_names content) then Err Notempty
     else Ok (taken tree place (last_name path) number))))
 
+-- the directory above one, none above the root
+abbrev pub above : NodeMap → ℕ → Option ℕ
+above nodes dir = if dir == root then None else parent_of nodes dir
+
 -- the directory, its parent and so on up to the root, at most so many
-abbrev pub up_from : ℕ → Nodes → Option ℕ → List ℕ
+abbrev pub up_from : ℕ → NodeMap → Option ℕ → List ℕ
 up_from zero nodes dir = []
 up_from (suc most) nodes None = []
-up_from (suc most) nodes (Some dir) = dir ∷ (if dir == root then [] else up_from most nodes (parent_of nodes dir))
+up_from (suc most) nodes (Some dir) = dir ∷ up_from most nodes (above nodes dir)
 
 -- the directories in which this one lies, itself among them
-abbrev pub line_of : Nodes → ℕ → List ℕ
+abbrev pub line_of : NodeMap → ℕ → List ℕ
 line_of nodes dir = up_from (len nodes) nodes (Some dir)
 
 -- the directory is this node, or lies below it
-abbrev pub is_within : Nodes → ℕ → ℕ → Bool
+abbrev pub is_within : NodeMap → ℕ → ℕ → Bool
 is_within nodes dir number = list_any (λ above. above == number) (line_of nodes dir)
 
 -- the nodes where the new name leads to the node, and the old name is gone
-abbrev pub moved : Nodes → ℕ → ℕ → List ℕ → ℕ → List ℕ → Nodes
+abbrev pub moved : NodeMap → ℕ → ℕ → List ℕ → ℕ → List ℕ → NodeMap
 moved nodes number dir name new_dir new_name =
     changed (forgotten (named nodes new_dir new_name number) dir name) number (linked_in new_dir)
 
 -- the node that a move replaces goes where nothing holds it
-abbrev pub replacing : Nodes → Option ℕ → Nodes
+abbrev pub replacing : NodeMap → Option ℕ → NodeMap
 replacing nodes None = nodes
 replacing nodes (Some other) = settled nodes other unlinked
 
@@ -103,7 +108,7 @@ may_replace old new =
     else if not (has_no_names new) then Err Notempty
     else Ok true
 
-abbrev pub may_replace_at : Nodes → ℕ → Option ℕ → Result Bool Errno
+abbrev pub may_replace_at : NodeMap → ℕ → Option ℕ → Result Bool Errno
 may_replace_at nodes number None = Ok true
 may_replace_at nodes number (Some other) =
     and_then (content_at nodes number) (λ old. and_then (content_at nodes other) (λ new. may_replace old new))
@@ -119,7 +124,7 @@ rename_node tree old name new new_name number =
     else if is_node new.node number then Ok tree
     else if is_within tree.nodes new.dir number then Err Inval
     else and_then (may_replace_at tree.nodes number new.node) (λ _.
-    Ok (record { nodes = replacing (moved tree.nodes number old.dir name new.dir new_name) new.node; next = tree.next }))
+    Ok (with_nodes tree (replacing (moved tree.nodes number old.dir name new.dir new_name) new.node)))
 
 -- a node gets a new name, in the same or another directory
 abbrev pub rename : FileTree → ℕ → PathParts → ℕ → PathParts → Result FileTree Errno

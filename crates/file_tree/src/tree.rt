@@ -3,16 +3,21 @@ ghost use Rattle.std.specs.Prelude.{◌≡◌, ◌<◌, ◌^◌, IsTrue, IfOk, l
 ghost use Rattle.file_tree.specs.Answers.{Gives, Leaves, Changes, Tells};
 ghost use Rattle.file_tree.specs.FileTree as spec;
 ghost use Rattle.file_tree.specs.Walk.{lookup, find};
-ghost use Rattle.file_tree.specs.Names.{create, mkdir, unlink, rmdir, rename};
+ghost use Rattle.file_tree.specs.Names.{create, mkdir, unlink, rmdir, rename, rename_node};
 ghost use Rattle.file_tree.specs.Files.{read_at, count_read, filled, write_at, set_size};
 ghost use Rattle.file_tree.specs.Listings.{stat, list, path_of};
 
+use crate::edits::{
+    has_no_names, is_dir, is_within, may_replace_at, move_node, release_node, take_name,
+};
+use crate::files::{bytes_at, check_room, file_or_inval, read_from};
 use crate::listing::{Listing, Stat};
+use crate::place::Place;
+use crate::walk::{ROOT, content_at, is_linked, last_name, names_no_entry, walk};
 use path_walk::Parts;
 use std::alloc::{AllocError, Global};
-use std::collections::BTreeMap;
 use std::marker::Model;
-use tree_nodes::Node;
+use tree_nodes::{Content, Name, Names, Node, Nodes};
 use wx_types::{Bytes, Errno, Refusal};
 
 /// A file tree in memory. Contracts see it as a finite map from the numbers of its nodes to a file's
@@ -26,20 +31,18 @@ use wx_types::{Bytes, Errno, Refusal};
 /// After a refusal, and after want of memory, the tree is unchanged.
 #[derive(Drop)]
 pub struct Tree {
-    nodes: BTreeMap<u32, Node>,
+    nodes: Nodes,
     next: u64,
-    bytes: u64,
 }
 
 impl Model for Tree {
     ghost use Rattle.file_tree.specs.FileTree.{FileTree, tree_code};
-    ghost use Rattle.std.specs.FinMap.{from_entries};
 
     ghost Value = { FileTree };
 
     ghost coded = { tree_code };
 
-    ghost view = { λ a. record { nodes = from_entries a.nodes.entries; next = a.next } };
+    ghost view = { λ a. record { nodes = a.nodes; next = a.next } };
 }
 
 impl Tree {
@@ -48,7 +51,16 @@ impl Tree {
     pub fn new(alloc: Global) -> Result<Tree, AllocError>
         ensures { IfOk result (λ tree. tree ≡ spec.only_root) }
     {
-        Err(AllocError)
+        let mut nodes = Nodes::new(alloc);
+        nodes.insert(
+            ROOT,
+            Node {
+                parent: Some(ROOT),
+                holds: 0,
+                content: Content::Dir(Names::new(alloc)),
+            },
+        )?;
+        Ok(Tree { nodes, next: 2 })
     }
 
     /// The node that a path from the directory `from` names. After the walk `Noent` comes where it
@@ -56,7 +68,8 @@ impl Tree {
     pub fn lookup(&self, from: u32, path: &Parts<'_>) -> Result<u32, Errno>
         ensures { result ≡ lookup self.now from path.now }
     {
-        Err(Errno::Noent)
+        let place = walk(&self.nodes, from, path)?;
+        place.node.ok_or(Errno::Noent)
     }
 
     /// The node that a path names, or `None` where it names nothing and something could be made there.
@@ -65,7 +78,11 @@ impl Tree {
     pub fn find(&self, from: u32, path: &Parts<'_>) -> Result<Option<u32>, Errno>
         ensures { result ≡ find self.now from path.now }
     {
-        Err(Errno::Noent)
+        let place = walk(&self.nodes, from, path)?;
+        if place.node.is_none() && !is_linked(&self.nodes, place.dir) {
+            return Err(Errno::Noent);
+        }
+        Ok(place.node)
     }
 
     /// Makes an empty file, and gives its number. The refusals after the walk, in their order: `Exist`;
@@ -90,7 +107,15 @@ impl Tree {
     pub fn unlink(&mut self, from: u32, path: &Parts<'_>) -> Result<(), Errno>
         ensures { Changes (unlink self.old from path.now) self.old self.new result }
     {
-        Err(Errno::Noent)
+        let place = walk(&self.nodes, from, path)?;
+        let Some(number) = place.node else {
+            return Err(Errno::Noent);
+        };
+        if is_dir(content_at(&self.nodes, number)?) {
+            return Err(Errno::Isdir);
+        }
+        take_name(&mut self.nodes, place.dir, last_name(path), number);
+        Ok(())
     }
 
     /// Removes an empty directory. The refusals after the walk, in their order: `Inval` where the path
@@ -99,7 +124,22 @@ impl Tree {
     pub fn rmdir(&mut self, from: u32, path: &Parts<'_>) -> Result<(), Errno>
         ensures { Changes (rmdir self.old from path.now) self.old self.new result }
     {
-        Err(Errno::Noent)
+        let place = walk(&self.nodes, from, path)?;
+        if names_no_entry(path) {
+            return Err(Errno::Inval);
+        }
+        let Some(number) = place.node else {
+            return Err(Errno::Noent);
+        };
+        let content = content_at(&self.nodes, number)?;
+        if !is_dir(content) {
+            return Err(Errno::Notdir);
+        }
+        if !has_no_names(content) {
+            return Err(Errno::Notempty);
+        }
+        take_name(&mut self.nodes, place.dir, last_name(path), number);
+        Ok(())
     }
 
     /// Gives the node that `old` names, from the directory `from`, the name `new`, from the directory
@@ -120,7 +160,22 @@ impl Tree {
     ) -> Result<(), Refusal>
         ensures { Leaves (rename self.old from old.now to new.now) self.old self.new result }
     {
-        Err(Refusal::Memory)
+        let old_place = walk(&self.nodes, from, old)?;
+        let new_place = walk(&self.nodes, to, new)?;
+        if names_no_entry(old) || names_no_entry(new) {
+            return Err(Refusal::Errno(Errno::Inval));
+        }
+        let Some(number) = old_place.node else {
+            return Err(Refusal::Errno(Errno::Noent));
+        };
+        self.rename_node(
+            alloc,
+            old_place,
+            last_name(old),
+            new_place,
+            last_name(new),
+            number,
+        )
     }
 
     /// Puts the file's bytes from `offset` on at the front of `out`, as many as are there and fit, and
@@ -129,7 +184,8 @@ impl Tree {
         ensures count { result ≡ count_read (read_at self.now node offset (length out.old)) }
         ensures bytes { out.new ≡ filled out.old (read_at self.now node offset (length out.old)) }
     {
-        Err(Errno::Noent)
+        let bytes = bytes_at(&self.nodes, node)?;
+        Ok(read_from(bytes, offset, out))
     }
 
     /// Puts `bytes` into the file from `offset` on, with zeros in a gap behind its end. A write of no
@@ -139,7 +195,16 @@ impl Tree {
     pub fn write_at(&mut self, node: u32, offset: u64, bytes: &[u8]) -> Result<(), Refusal>
         ensures { Leaves (write_at self.old node offset bytes.now) self.old self.new result }
     {
-        Err(Refusal::Memory)
+        let before = bytes_at(&self.nodes, node)?.len() as u64;
+        if bytes.is_empty() {
+            return Ok(());
+        }
+        let Some(end) = offset.checked_add(bytes.len() as u64) else {
+            return Err(Refusal::Errno(Errno::Fbig));
+        };
+        let _ = check_room(&self.nodes, before, end, before.max(end))?;
+        self.nodes.write_at(node, offset as usize, bytes)?;
+        Ok(())
     }
 
     /// Cuts the file off at `size` bytes, or puts zeros behind its end up to there. The refusals, in
@@ -148,7 +213,10 @@ impl Tree {
     pub fn set_size(&mut self, node: u32, size: u64) -> Result<(), Refusal>
         ensures { Leaves (set_size self.old node size) self.old self.new result }
     {
-        Err(Refusal::Memory)
+        let before = file_or_inval(&self.nodes, node)?.len() as u64;
+        let _ = check_room(&self.nodes, before, size, size)?;
+        self.nodes.resize(node, size as usize)?;
+        Ok(())
     }
 
     /// A directory's names in the order of their bytes, with their nodes. `Notdir` comes for a file.
@@ -163,7 +231,14 @@ impl Tree {
     pub fn stat(&self, node: u32) -> Option<Stat>
         ensures { result ≡ stat self.now node }
     {
-        None
+        match self.nodes.get(node) {
+            Some(node) => Some(Stat {
+                kind: node.content.kind(),
+                size: node.content.size() as u64,
+                linked: node.parent.is_some(),
+            }),
+            None => None,
+        }
     }
 
     /// The absolute path of the node. `Noent` comes where it was removed. `Memory` is want of memory.
@@ -178,11 +253,54 @@ impl Tree {
         requires there { IsTrue (spec.is_there self.old node) }
         requires room { spec.holds_of self.old node < 4294967295 }
         ensures { self.new ≡ spec.hold self.old node }
-    {}
+    {
+        let Some(held) = self.nodes.get(node) else {
+            unreachable!();
+        };
+        let (parent, holds) = (held.parent, held.holds);
+        self.nodes.set_links(node, parent, holds + 1);
+    }
 
     /// One fewer holds the node. An unlinked one goes with the last.
     pub fn release(&mut self, node: u32)
         requires { 0 < spec.holds_of self.old node }
         ensures { self.new ≡ spec.release self.old node }
-    {}
+    {
+        release_node(&mut self.nodes, node);
+    }
+
+    // The node moves to the new place, unless a rule refuses it.
+    fn rename_node(
+        &mut self,
+        alloc: Global,
+        old: Place,
+        name: &[u8],
+        new: Place,
+        new_name: &[u8],
+        number: u32,
+    ) -> Result<(), Refusal>
+        ensures { Leaves (rename_node self.old old name.now new new_name.now number) self.old self.new result }
+    {
+        if !is_linked(&self.nodes, new.dir) {
+            return Err(Refusal::Errno(Errno::Noent));
+        }
+        if new.node == Some(number) {
+            return Ok(());
+        }
+        if is_within(&self.nodes, new.dir, number) {
+            return Err(Refusal::Errno(Errno::Inval));
+        }
+        let _ = may_replace_at(&self.nodes, number, new.node)?;
+        let new_name = Name::new(alloc, new_name)?;
+        move_node(
+            &mut self.nodes,
+            number,
+            old.dir,
+            name,
+            new.dir,
+            new_name,
+            new.node,
+        )?;
+        Ok(())
+    }
 }

@@ -3,7 +3,8 @@ ghost use Rattle.std.specs.Prelude.{◌≡◌, ◌==◌, Some, OnOk, OnErr, IfOk
 ghost use Rattle.std.specs.Ordering.{nat_cmp};
 ghost use Rattle.std.specs.Cmp.{partial_equiv_from_equiv};
 ghost use Rattle.std.specs.Cmp.Lexicographic.{slice_cmp, nat_list_eq_equiv, nat_list_cmp_total, texts_ties, texts_po};
-ghost use Rattle.std.specs.FinMap.{empty, get, insert, remove, len};
+ghost use Rattle.std.specs.FinMap.{empty, get, insert, remove, len, entries};
+ghost use Rattle.tree_nodes.specs.Names.{name_among};
 ghost use Rattle.std.specs.BTreeMap.Comparable.{le_lt_trans};
 ghost use Rattle.std.specs.Str.{bytes_eq};
 
@@ -12,6 +13,7 @@ use std::cmp::Ordering;
 use std::collections::BTreeMap;
 use std::collections::btree_map::Comparable;
 use std::marker::Model;
+use wx_types::Bytes;
 
 /// A name of a directory. Contracts see it as the list of its bytes. Names are ordered by their bytes.
 #[derive(Debug, Drop)]
@@ -152,5 +154,30 @@ impl Names {
         ensures { self.new ≡ remove self.old name.now }
     {
         let _ = self.map.remove(name);
+    }
+
+    /// A copy of the names in the order of their bytes, with the numbers of their nodes. `AllocError` is
+    /// want of memory and nothing else.
+    pub fn to_vec(&self, alloc: Global) -> Result<Vec<(Bytes, u32)>, AllocError>
+        ensures { IfOk result (λ all. all.items ≡ entries self.now) }
+    {
+        let mut all = Vec::with_capacity(alloc, self.map.len())?;
+        for (name, node) in &self.map {
+            all.push((Bytes::new(alloc, name.as_slice())?, *node))?;
+        }
+        Ok(all)
+    }
+
+    /// The first name that leads to a node, empty where none does.
+    pub fn name_of(&self, node: u32) -> &[u8]
+        ensures { result.now ≡ name_among (entries self.now) node }
+    {
+        let _ = self.map.len();
+        for (name, number) in &self.map {
+            if *number == node {
+                return name.as_slice();
+            }
+        }
+        b"".as_slice()
     }
 }
