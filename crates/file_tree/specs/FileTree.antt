@@ -4,7 +4,7 @@ use Rattle.std.specs.Coded.{Coded, code_by, coded×, coded_ℕ}
 use Rattle.std.specs.FinMap.{get, insert, empty}
 use Rattle.tree_nodes.specs.declared.node.Node.{Node}
 use Rattle.tree_nodes.specs.declared.node.Content.{Content}
-use Rattle.tree_nodes.specs.declared.node.Content.TheVariants.{File, Dir}
+use Rattle.tree_nodes.specs.declared.node.Content.TheVariants.{Dir}
 use Rattle.tree_nodes.specs.Nodes.{coded_nodes}
 pub use Rattle.tree_nodes.specs.Nodes.{NodeMap, most_bytes, kind_of, size_of, bytes_of_all, is_linked, parent_of, changed, settled, held, let_go, linked_in, unlinked, with_change, named, forgotten, writing, resizing}
 

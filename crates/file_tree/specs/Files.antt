@@ -1,5 +1,5 @@
 -- The bytes of files, read and written.
-use Rattle.std.specs.Prelude.{ℕ, Bool, true, ◌+◌, ◌-◌, ◌==◌, nat_lt, if◌then◌else◌, List, [], ◌++◌, length, take, drop, max, Result, Ok, Err}
+use Rattle.std.specs.Prelude.{ℕ, Bool, true, ◌+◌, ◌==◌, nat_lt, if◌then◌else◌, List, ◌++◌, length, take, drop, max, Result, Ok, Err}
 use Rattle.file_tree.specs.FileTree.{FileTree, NodeMap, with_nodes, most_bytes, bytes_of_all, changed, with_change, writing, resizing}
 use Rattle.file_tree.specs.Walk.{and_then, content_at, bytes_of}
 use Rattle.tree_nodes.specs.declared.node.Content.{Content}

@@ -1,9 +1,10 @@
 -- What a node is, what a directory has, and where a node lies.
-use Rattle.std.specs.Prelude.{ℕ, zero, suc, Bool, true, false, ◌==◌, if◌then◌else◌, List, [], ◌∷◌, ◌++◌, map, Option, Some, None, is_some, Result, Ok, Err}
+use Rattle.std.specs.Prelude.{ℕ, zero, suc, if◌then◌else◌, List, [], ◌∷◌, ◌++◌, map, Option, Some, None, is_some, Result, Ok, Err}
 use Rattle.std.specs.Option.{option_map}
 use Rattle.std.specs.FinMap.{get, entries, len}
-use Rattle.file_tree.specs.FileTree.{FileTree, NodeMap, root, kind_of, size_of, parent_of, is_linked}
-use Rattle.file_tree.specs.Walk.{and_then, names_at}
+use Rattle.file_tree.specs.FileTree.{FileTree, NodeMap, kind_of, size_of, is_linked}
+pub use Rattle.file_tree.specs.Walk.{and_then, names_at}
+use Rattle.file_tree.specs.Names.{above}
 use Rattle.file_tree.specs.declared.listing.Listed.{Listed}
 use Rattle.file_tree.specs.declared.listing.Stat.{Stat}
 use Rattle.tree_nodes.specs.Names.{NameMap, name_among}
@@ -38,11 +39,13 @@ name_for (Ok names) number = name_among (entries names) number
 name_for (Err error) number = []
 
 -- the path from the root to a node, a slash before each name, through at most so many directories
-abbrev pub path_down : ℕ → NodeMap → ℕ → Option ℕ → List ℕ
-path_down zero nodes number parent = []
-path_down (suc most) nodes number None = []
-path_down (suc most) nodes number (Some dir) =
-    if number == root then [] else path_down most nodes dir (parent_of nodes dir) ++ 47 ∷ name_for (names_at nodes dir) number
+abbrev pub path_through : ℕ → NodeMap → ℕ → Option ℕ → List ℕ
+path_through zero nodes number dir = []
+path_through (suc most) nodes number None = []
+path_through (suc most) nodes number (Some dir) = path_through most nodes dir (above nodes dir) ++ 47 ∷ name_for (names_at nodes dir) number
+
+abbrev pub path_down : ℕ → NodeMap → ℕ → List ℕ
+path_down most nodes number = path_through most nodes number (above nodes number)
 
 abbrev pub or_slash : List ℕ → List ℕ
 or_slash [] = 47 ∷ []
@@ -52,5 +55,5 @@ or_slash (byte ∷ bytes) = byte ∷ bytes
 abbrev pub path_of : FileTree → ℕ → Result (List ℕ) Errno
 path_of tree number =
     if is_linked tree.nodes number
-    then Ok (or_slash (path_down (len tree.nodes) tree.nodes number (parent_of tree.nodes number)))
+    then Ok (or_slash (path_down (len tree.nodes) tree.nodes number))
     else Err Noent

@@ -5,7 +5,7 @@ use Rattle.std.specs.List.{list_any}
 use Rattle.std.specs.FinMap.{insert, empty, len}
 use Rattle.path_walk.specs.Paths.{PathParts}
 use Rattle.file_tree.specs.FileTree.{FileTree, NodeMap, with_nodes, root, most_nodes, last_number, new_node, parent_of, is_linked, changed, settled, linked_in, unlinked, named, forgotten}
-use Rattle.file_tree.specs.Walk.{and_then, walk, names_at, content_at, last_name, names_no_entry}
+use Rattle.file_tree.specs.Walk.{and_then, walk, content_at, last_name, names_no_entry}
 use Rattle.file_tree.specs.declared.place.Place.{Place}
 use Rattle.tree_nodes.specs.declared.node.Content.{Content}
 use Rattle.tree_nodes.specs.declared.node.Content.TheVariants.{File, Dir}

@@ -1,5 +1,5 @@
 -- How a path is walked in the tree (POSIX.1-2017, 4.13).
-use Rattle.std.specs.Prelude.{ℕ, Bool, true, false, if◌then◌else◌, List, [], ◌∷◌, Option, Some, None, is_some, Result, Ok, Err}
+use Rattle.std.specs.Prelude.{ℕ, Bool, true, false, if◌then◌else◌, List, [], ◌∷◌, Option, Some, None, Result, Ok, Err}
 use Rattle.std.specs.Option.{ok_or, unwrap_or}
 use Rattle.std.specs.List.{last_or}
 use Rattle.std.specs.FinMap.{get}

@@ -80,8 +80,8 @@ pub fn move_node(
     Ok(())
 }
 
-// The directory above one, none above the root.
-fn above_of(nodes: &Nodes, dir: u32) -> Option<u32>
+/// The directory above a node, none above the root.
+pub fn above_of(nodes: &Nodes, dir: u32) -> Option<u32>
     ensures { result ≡ spec.above nodes.now dir }
 {
     if dir == ROOT {

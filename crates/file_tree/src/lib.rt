@@ -3,7 +3,9 @@
 
 mod edits;
 mod files;
+mod list;
 mod listing;
+mod path;
 mod place;
 mod tree;
 mod walk;

@@ -1,9 +1,10 @@
 // The tree, and its calls.
-ghost use Rattle.std.specs.Prelude.{◌≡◌, ◌<◌, ◌^◌, IsTrue, IfOk, length};
+ghost use Rattle.std.specs.Prelude.{◌≡◌, ◌<◌, ◌^◌, IsTrue, IfOk, None, true, length};
+ghost use Rattle.tree_nodes.specs.Nodes.{size_of, is_free};
 ghost use Rattle.file_tree.specs.Answers.{Gives, Leaves, Changes, Tells};
 ghost use Rattle.file_tree.specs.FileTree as spec;
-ghost use Rattle.file_tree.specs.Walk.{lookup, find};
-ghost use Rattle.file_tree.specs.Names.{create, mkdir, unlink, rmdir, rename, rename_node};
+ghost use Rattle.file_tree.specs.Walk.{lookup, find, last_name};
+ghost use Rattle.file_tree.specs.Names.{create, mkdir, unlink, rmdir, rename, rename_node, made_at};
 ghost use Rattle.file_tree.specs.Files.{read_at, count_read, filled, write_at, set_size};
 ghost use Rattle.file_tree.specs.Listings.{stat, list, path_of};
 
@@ -11,14 +12,19 @@ use crate::edits::{
     has_no_names, is_dir, is_within, may_replace_at, move_node, release_node, take_name,
 };
 use crate::files::{bytes_at, check_room, file_or_inval, read_from};
+use crate::list::listing_of;
 use crate::listing::{Listing, Stat};
+use crate::path::path_bytes;
 use crate::place::Place;
-use crate::walk::{ROOT, content_at, is_linked, last_name, names_no_entry, walk};
+use crate::walk::{ROOT, content_at, is_linked, last_name, names_at, names_no_entry, walk};
 use path_walk::Parts;
 use std::alloc::{AllocError, Global};
 use std::marker::Model;
-use tree_nodes::{Content, Name, Names, Node, Nodes};
+use tree_nodes::{Content, FileBytes, Name, Names, Node, Nodes};
 use wx_types::{Bytes, Errno, Refusal};
+
+/// The most nodes, the root and unlinked ones that are held among them.
+const MOST_NODES: usize = 16_384;
 
 /// A file tree in memory. Contracts see it as a finite map from the numbers of its nodes to a file's
 /// bytes or a directory's names, and the number that the next new node is given.
@@ -91,7 +97,9 @@ impl Tree {
     pub fn create(&mut self, alloc: Global, from: u32, path: &Parts<'_>) -> Result<u32, Refusal>
         ensures { Gives (create self.old from path.now) self.old self.new result }
     {
-        Err(Refusal::Memory)
+        let place = walk(&self.nodes, from, path)?;
+        let content = Content::File(FileBytes::new(alloc));
+        self.make(alloc, path, place, content, path.must_dir())
     }
 
     /// Makes an empty directory, and gives its number. The refusals after the walk, in their order:
@@ -99,7 +107,9 @@ impl Tree {
     pub fn mkdir(&mut self, alloc: Global, from: u32, path: &Parts<'_>) -> Result<u32, Refusal>
         ensures { Gives (mkdir self.old from path.now) self.old self.new result }
     {
-        Err(Refusal::Memory)
+        let place = walk(&self.nodes, from, path)?;
+        let content = Content::Dir(Names::new(alloc));
+        self.make(alloc, path, place, content, false)
     }
 
     /// Removes a file's name. The refusals after the walk, in their order: `Noent`; `Isdir`. The node
@@ -224,7 +234,8 @@ impl Tree {
     pub fn list(&self, alloc: Global, node: u32) -> Result<Listing, Refusal>
         ensures { Tells (list self.now node) result }
     {
-        Err(Refusal::Memory)
+        let names = names_at(&self.nodes, node)?;
+        Ok(listing_of(alloc, &self.nodes, names.to_vec(alloc)?)?)
     }
 
     /// The node's kind, its size, and whether a directory names it; `None` exactly where it isn't there.
@@ -245,7 +256,10 @@ impl Tree {
     pub fn path_of(&self, alloc: Global, node: u32) -> Result<Bytes, Refusal>
         ensures { Tells (path_of self.now node) result }
     {
-        Err(Refusal::Memory)
+        if !is_linked(&self.nodes, node) {
+            return Err(Refusal::Errno(Errno::Noent));
+        }
+        Ok(Bytes::from_vec(path_bytes(alloc, &self.nodes, node)?))
     }
 
     /// One more open description or current directory holds the node, which stays until it is let go.
@@ -267,6 +281,43 @@ impl Tree {
         ensures { self.new ≡ spec.release self.old node }
     {
         release_node(&mut self.nodes, node);
+    }
+
+    // A new node where a walk ended, unless a rule refuses it.
+    fn make(
+        &mut self,
+        alloc: Global,
+        path: &Parts<'_>,
+        place: Place,
+        content: Content,
+        refused: bool,
+    ) -> Result<u32, Refusal>
+        requires bytes { size_of content ≡ 0 }
+        requires free { place.node ≡ None → is_free self.old.nodes place.dir (last_name path.now) ≡ true }
+        ensures { Gives (made_at self.old path.now content refused place) self.old self.new result }
+    {
+        if place.node.is_some() {
+            return Err(Refusal::Errno(Errno::Exist));
+        }
+        if !is_linked(&self.nodes, place.dir) {
+            return Err(Refusal::Errno(Errno::Noent));
+        }
+        if refused {
+            return Err(Refusal::Errno(Errno::Isdir));
+        }
+        if self.nodes.len() >= MOST_NODES || self.next > u32::MAX as u64 {
+            return Err(Refusal::Errno(Errno::Nospc));
+        }
+        let number = self.next as u32;
+        let node = Node {
+            parent: Some(place.dir),
+            holds: 0,
+            content,
+        };
+        self.nodes
+            .add(alloc, place.dir, last_name(path), number, node)?;
+        self.next += 1;
+        Ok(number)
     }
 
     // The node moves to the new place, unless a rule refuses it.

@@ -1,5 +1,6 @@
 // The walk of a path, which every call shares.
-ghost use Rattle.std.specs.Prelude.{◌≡◌, Some, None, Ok, Err, MatchResult};
+ghost use Rattle.std.specs.Prelude.{◌≡◌, true, None, Ok, Err, IfOk, MatchResult};
+ghost use Rattle.tree_nodes.specs.Nodes.{is_free};
 ghost use Rattle.file_tree.specs.FileTree as tree;
 ghost use Rattle.file_tree.specs.Walk as spec;
 
@@ -53,7 +54,8 @@ pub fn is_linked(nodes: &Nodes, number: u32) -> bool
 
 // One component, taken in a directory.
 fn step(nodes: &Nodes, dir: u32, name: &[u8]) -> Result<Place, Errno>
-    ensures { result ≡ spec.step nodes.now dir name.now }
+    ensures place { result ≡ spec.step nodes.now dir name.now }
+    ensures free { IfOk result (λ place. place.node ≡ None → is_free nodes.now place.dir name.now ≡ true) }
 {
     let names = names_at(nodes, dir)?;
     if name == b"..".as_slice() {
@@ -74,7 +76,8 @@ fn step(nodes: &Nodes, dir: u32, name: &[u8]) -> Result<Place, Errno>
 
 // The components of a path in turn, from a directory.
 fn walk_names(nodes: &Nodes, from: u32, path: &Parts<'_>) -> Result<Place, Errno>
-    ensures { result ≡ spec.walk_on nodes.now (spec.place_itself from) path.now.names }
+    ensures place { result ≡ spec.walk_on nodes.now (spec.place_itself from) path.now.names }
+    ensures free { IfOk result (λ place. place.node ≡ None → is_free nodes.now place.dir (spec.last_name path.now) ≡ true) }
 {
     let mut place = Place {
         dir: from,
@@ -91,7 +94,8 @@ fn walk_names(nodes: &Nodes, from: u32, path: &Parts<'_>) -> Result<Place, Errno
 
 // The walk of a path: from the root where it is absolute, else from the directory `from`.
 pub fn walk(nodes: &Nodes, from: u32, path: &Parts<'_>) -> Result<Place, Errno>
-    ensures { result ≡ spec.walk nodes.now from path.now }
+    ensures place { result ≡ spec.walk nodes.now from path.now }
+    ensures free { IfOk result (λ place. place.node ≡ None → is_free nodes.now place.dir (spec.last_name path.now) ≡ true) }
 {
     let start = if path.absolute() { ROOT } else { from };
     let place = walk_names(nodes, start, path)?;

@@ -1,8 +1,11 @@
 -- What a change of one node does to the finite map and to the bytes of all files.
-use Rattle.std.proofs.Common.{◌≡◌, ℕ, ◌+◌, ◌≤◌, Bool, true, false, cond, List, [], ◌∷◌, Option, Some, None, Ordering, nat_cmp, refl, sym, ap, subst, ◌∙◌, arith, MutBor, IsSome, Result, Ok, Err, OnOk, OnErr}
+use Rattle.std.proofs.Common.{◌≡◌, ℕ, ◌+◌, ◌≤◌, Bool, true, false, cond, List, [], ◌∷◌, Option, Some, None, Ordering, nat_cmp, refl, sym, ap, subst, ◌∙◌, arith, MutBor, IsSome, Result, Ok, Err, OnOk, OnErr, is_none}
 use Rattle.std.specs.BTreeMap.{BTreeMap, get_by, is_at, WritesThrough, insert_entry}
-use Rattle.std.specs.Cmp.{nat_cmp_total}
-use Rattle.std.specs.FinMap.{get, insert, from_entries, get-insert, same_map, nat_cmp-IsAntisymmetric}
+use Rattle.std.specs.Cmp.{nat_cmp_total, tied_itself}
+use Rattle.std.specs.Cmp.Lexicographic.{slice_cmp, nat_list_cmp_total}
+use Rattle.std.proofs.lemmas.Bool.{false≢true}
+use Rattle.tree_nodes.specs.Names.{NameMap}
+use Rattle.std.specs.FinMap.{get, insert, from_entries, get-insert, get-remove, same_map, nat_cmp-IsAntisymmetric, slice_cmp-IsAntisymmetric}
 use Rattle.std.specs.Map.{lookup, set_value, remove_entry, keys_of}
 use Rattle.std.specs.List.{AllByRecursion}
 use Rattle.std.specs.List.Sorted.{IsStrictlySortedBy}
@@ -14,6 +17,8 @@ use Rattle.tree_nodes.specs.declared.node.Content.{Content}
 use Rattle.tree_nodes.specs.declared.node.Content.TheVariants.{File, Dir}
 use Rattle.tree_nodes.specs.declared.node.Node.{Node}
 use Rattle.tree_nodes.proofs.MapLemmas.{get_entry, inserted, entries_of_sorted}
+use Rattle.std.specs.FinMap.{remove}
+use Rattle.tree_nodes.specs.Nodes.{named, forgotten, is_free, lacks_name, lacks_name_at, with_change}
 
 -- a node with its size in place of another's
 pub sizes_set : (test : ℕ → Bool) (es : List (ℕ × Node)) (v w : Node) → lookup test es ≡ Some v → sizes (set_value test es w) + size_of v.content ≡ sizes es + size_of w.content
@@ -144,3 +149,52 @@ written_same number m n v w found through same =
     written_node number m n v w (λ _. v) found through same
     ∙ changed_there (from_entries m.entries) number (λ _. v) v there
     ∙ insert_same (from_entries m.entries) number v there
+
+-- a new name that is forgotten leaves the names as they were
+remove_inserted : (names : NameMap) (name : List ℕ) (number : ℕ) → get names name ≡ None → remove (insert names name number) name ≡ names
+remove_inserted names name number none = same_map nat_list_cmp_total (slice_cmp-IsAntisymmetric nat_cmp-IsAntisymmetric) _ _ (λ q.
+    get-remove nat_list_cmp_total (insert names name number) name q
+    ∙ ap (cond (is_eq (slice_cmp nat_cmp q name)) None) (get-insert nat_list_cmp_total names name number q)
+    ∙ at q (slice_cmp nat_cmp q name) refl)
+  where
+  at : (q : List ℕ) (r : Ordering) → slice_cmp nat_cmp q name ≡ r → cond (is_eq r) None (cond (is_eq r) (Some number) (get names q)) ≡ get names q
+  at q Less e = refl
+  at q Equal e = sym (ap (get names) (slice_cmp-IsAntisymmetric nat_cmp-IsAntisymmetric q name e) ∙ none)
+  at q Greater e = refl
+
+get_inserted : (nodes : NodeMap) (number : ℕ) (node : Node) → get (insert nodes number node) number ≡ Some node
+get_inserted nodes number node = get-insert nat_cmp_total nodes number node number ∙ ap (λ r. cond (is_eq r) (Some node) (get nodes number)) (tied_itself nat_cmp_total number)
+
+insert_twice : (nodes : NodeMap) (number : ℕ) (v w : Node) → insert (insert nodes number v) number w ≡ insert nodes number w
+insert_twice nodes number v w = same_map nat_cmp_total nat_cmp-IsAntisymmetric _ _ (λ q.
+    get-insert nat_cmp_total (insert nodes number v) number w q
+    ∙ ap (cond (is_eq (nat_cmp q number)) (Some w)) (get-insert nat_cmp_total nodes number v q)
+    ∙ twice (is_eq (nat_cmp q number)) (get nodes q)
+    ∙ sym (get-insert nat_cmp_total nodes number w q))
+  where
+  twice : (b : Bool) (o : Option Node) → cond b (Some w) (cond b (Some v) o) ≡ cond b (Some w) o
+  twice true o = refl
+  twice false o = refl
+
+-- a new name in a directory that lacks it, forgotten again, leaves the node as it was
+renamed_back : (name : List ℕ) (number : ℕ) (content : Content) → lacks_name name content ≡ true → forgetting name (naming name number content) ≡ content
+renamed_back name number (File bytes) lacks = refl
+renamed_back name number (Dir names) lacks = ap Dir (remove_inserted names name number (none_from (get names name) lacks))
+  where
+  none_from : (o : Option ℕ) → is_none o ≡ true → o ≡ None
+  none_from None e = refl
+  none_from (Some x) e = absurd (false≢true e)
+
+undone_at : (nodes : NodeMap) (dir : ℕ) (name : List ℕ) (number : ℕ) (o : Option Node) → get nodes dir ≡ o → lacks_name_at name o ≡ true → forgotten (named nodes dir name number) dir name ≡ nodes
+undone_at nodes dir name number None there lacks = absurd (false≢true lacks)
+undone_at nodes dir name number (Some node) there lacks =
+    let new = with_change (naming name number) node in
+    let now = changed_there nodes dir (with_change (naming name number)) node there in
+    ap (λ m. forgotten m dir name) now
+    ∙ changed_there (insert nodes dir new) dir (with_change (forgetting name)) new (get_inserted nodes dir new)
+    ∙ insert_twice nodes dir new (with_change (forgetting name) new)
+    ∙ ap (λ content. insert nodes dir (with_change (λ _. content) node)) (renamed_back name number node.content lacks)
+    ∙ insert_same nodes dir node there
+
+pub undone : (nodes : NodeMap) (dir : ℕ) (name : List ℕ) (number : ℕ) → is_free nodes dir name ≡ true → forgotten (named nodes dir name number) dir name ≡ nodes
+undone nodes dir name number free = undone_at nodes dir name number (get nodes dir) refl free

@@ -1,5 +1,5 @@
 -- The nodes of a file tree by number, each with a file's bytes or a directory's names.
-use Rattle.std.specs.Prelude.{◌≡◌, ℕ, Bool, false, ◌+◌, ◌-◌, ◌==◌, if◌then◌else◌, List, [], ◌∷◌, ◌++◌, length, take, drop, replicate, ◌≤◌, ⊤, Option, Some, None, is_some, refl, ◌⊎◌}
+use Rattle.std.specs.Prelude.{◌≡◌, ℕ, Bool, false, ◌+◌, ◌-◌, ◌==◌, if◌then◌else◌, List, [], ◌∷◌, ◌++◌, length, take, drop, replicate, ◌≤◌, ⊤, Option, Some, None, is_some, is_none, refl, ◌⊎◌}
 use Rattle.std.specs.Coded.{Coded, code_by, coded×, coded⊎, coded_ℕ, coded_list, coded_option}
 use Rattle.std.specs.Ordering.{nat_cmp}
 use Rattle.std.specs.FinMap.{FinMap, get, insert, remove, entries, code as code_of_map}
@@ -130,6 +130,18 @@ named nodes dir name number = changed nodes dir (with_change (naming name number
 -- the nodes where the directory doesn't have the name
 abbrev pub forgotten : NodeMap → ℕ → List ℕ → NodeMap
 forgotten nodes dir name = changed nodes dir (with_change (forgetting name))
+
+-- it is a directory that doesn't have the name
+abbrev pub lacks_name : List ℕ → Content → Bool
+lacks_name name (File bytes) = false
+lacks_name name (Dir names) = is_none (get names name)
+
+abbrev pub lacks_name_at : List ℕ → Option Node → Bool
+lacks_name_at name None = false
+lacks_name_at name (Some node) = lacks_name name node.content
+
+abbrev pub is_free : NodeMap → ℕ → List ℕ → Bool
+is_free nodes dir name = lacks_name_at name (get nodes dir)
 
 -- the size of a node's file, if there is one
 abbrev pub size_found : Option Node → ℕ

@@ -1,9 +1,9 @@
 // The nodes of a tree by their numbers.
-ghost use Rattle.std.specs.Prelude.{◌≡◌, ◌≤◌, ◌<◌, ◌+◌, ◌^◌, OnOk, OnErr, length};
+ghost use Rattle.std.specs.Prelude.{◌≡◌, ◌≤◌, ◌<◌, ◌+◌, ◌^◌, OnOk, OnErr, length, true};
 ghost use Rattle.std.specs.FinMap.{empty, get, insert, remove, len};
 ghost use Rattle.std.specs.Option.{option_copied};
 ghost use Rattle.tree_nodes.specs.Nodes as spec;
-ghost use Rattle.tree_nodes.specs.Nodes.{bytes_of_all, size_of, changed, with_links, with_change, named, forgotten, resizing, writing, Fits};
+ghost use Rattle.tree_nodes.specs.Nodes.{bytes_of_all, size_of, changed, with_links, with_change, named, forgotten, resizing, writing, Fits, is_free};
 
 use crate::names::Name;
 use crate::node::Node;
@@ -118,6 +118,29 @@ impl Nodes {
             Some(node) => node.content.add_name(name, number),
             None => Ok(()),
         }
+    }
+
+    /// Puts a new node without bytes under this number, and lets a new name of the directory lead to it.
+    /// `AllocError` is want of memory and nothing else; the nodes are unchanged then.
+    pub fn add(
+        &mut self,
+        alloc: Global,
+        dir: u32,
+        name: &[u8],
+        number: u32,
+        node: Node,
+    ) -> Result<(), AllocError>
+        requires bytes { size_of node.content ≡ 0 }
+        requires free { is_free self.old dir name.now ≡ true }
+        ensures ok { OnOk result (self.new ≡ insert (named self.old dir name.now number) number node) }
+        ensures err { OnErr result (self.new ≡ self.old) }
+    {
+        self.add_name(dir, Name::new(alloc, name)?, number)?;
+        if self.insert(number, node).is_err() {
+            self.forget_name(dir, name);
+            return Err(AllocError);
+        }
+        Ok(())
     }
 
     /// Removes the directory's name, where the directory is there. No memory is taken.

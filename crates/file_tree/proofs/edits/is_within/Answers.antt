@@ -1,4 +1,4 @@
-use Rattle.std.proofs.Common.{◌≡◌, ◌-◌, ℕ, Option, sym, ap, ◌∙◌, arith, eqb}
+use Rattle.std.proofs.Common.{◌-◌, ℕ, Option, ap, ◌∙◌, eqb}
 use Rattle.std.specs.List.{list_any}
 use Rattle.file_tree.specs.Names.{up_from}
 use Rattle.file_tree.proofs.WalkLemmas.{any_above, apart}

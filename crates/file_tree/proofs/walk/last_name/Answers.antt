@@ -1,4 +1,4 @@
-use Rattle.std.proofs.Common.{◌≡◌, ◌-◌, sym, ◌∙◌, arith}
+use Rattle.std.proofs.Common.{◌-◌, sym, ◌∙◌, arith}
 use Rattle.file_tree.proofs.WalkLemmas.{last_at}
 use Rattle.file_tree.proofs.walk.last_name.Goals as goal
 
