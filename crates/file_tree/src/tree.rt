@@ -262,6 +262,16 @@ impl Tree {
         Ok(Bytes::from_vec(path_bytes(alloc, &self.nodes, node)?))
     }
 
+    /// How many open descriptions and current directories hold the node; 0 where it isn't there.
+    pub fn holds(&self, node: u32) -> u32
+        ensures { result ≡ spec.holds_of self.now node }
+    {
+        match self.nodes.get(node) {
+            Some(node) => node.holds,
+            None => 0,
+        }
+    }
+
     /// One more open description or current directory holds the node, which stays until it is let go.
     pub fn hold(&mut self, node: u32)
         requires there { IsTrue (spec.is_there self.old node) }

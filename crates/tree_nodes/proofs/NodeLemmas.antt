@@ -157,10 +157,10 @@ remove_inserted names name number none = same_map nat_list_cmp_total (slice_cmp-
     ∙ ap (cond (is_eq (slice_cmp nat_cmp q name)) None) (get-insert nat_list_cmp_total names name number q)
     ∙ at q (slice_cmp nat_cmp q name) refl)
   where
-  at : (q : List ℕ) (r : Ordering) → slice_cmp nat_cmp q name ≡ r → cond (is_eq r) None (cond (is_eq r) (Some number) (get names q)) ≡ get names q
-  at q Less e = refl
-  at q Equal e = sym (ap (get names) (slice_cmp-IsAntisymmetric nat_cmp-IsAntisymmetric q name e) ∙ none)
-  at q Greater e = refl
+    at : (q : List ℕ) (r : Ordering) → slice_cmp nat_cmp q name ≡ r → cond (is_eq r) None (cond (is_eq r) (Some number) (get names q)) ≡ get names q
+    at q Less e = refl
+    at q Equal e = sym (ap (get names) (slice_cmp-IsAntisymmetric nat_cmp-IsAntisymmetric q name e) ∙ none)
+    at q Greater e = refl
 
 get_inserted : (nodes : NodeMap) (number : ℕ) (node : Node) → get (insert nodes number node) number ≡ Some node
 get_inserted nodes number node = get-insert nat_cmp_total nodes number node number ∙ ap (λ r. cond (is_eq r) (Some node) (get nodes number)) (tied_itself nat_cmp_total number)
@@ -172,18 +172,18 @@ insert_twice nodes number v w = same_map nat_cmp_total nat_cmp-IsAntisymmetric _
     ∙ twice (is_eq (nat_cmp q number)) (get nodes q)
     ∙ sym (get-insert nat_cmp_total nodes number w q))
   where
-  twice : (b : Bool) (o : Option Node) → cond b (Some w) (cond b (Some v) o) ≡ cond b (Some w) o
-  twice true o = refl
-  twice false o = refl
+    twice : (b : Bool) (o : Option Node) → cond b (Some w) (cond b (Some v) o) ≡ cond b (Some w) o
+    twice true o = refl
+    twice false o = refl
 
 -- a new name in a directory that lacks it, forgotten again, leaves the node as it was
 renamed_back : (name : List ℕ) (number : ℕ) (content : Content) → lacks_name name content ≡ true → forgetting name (naming name number content) ≡ content
 renamed_back name number (File bytes) lacks = refl
 renamed_back name number (Dir names) lacks = ap Dir (remove_inserted names name number (none_from (get names name) lacks))
   where
-  none_from : (o : Option ℕ) → is_none o ≡ true → o ≡ None
-  none_from None e = refl
-  none_from (Some x) e = absurd (false≢true e)
+    none_from : (o : Option ℕ) → is_none o ≡ true → o ≡ None
+    none_from None e = refl
+    none_from (Some x) e = absurd (false≢true e)
 
 undone_at : (nodes : NodeMap) (dir : ℕ) (name : List ℕ) (number : ℕ) (o : Option Node) → get nodes dir ≡ o → lacks_name_at name o ≡ true → forgotten (named nodes dir name number) dir name ≡ nodes
 undone_at nodes dir name number None there lacks = absurd (false≢true lacks)
