@@ -1,0 +1,3 @@
+//! The door.
+pub struct Door;
+pub struct Pass;
