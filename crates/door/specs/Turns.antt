@@ -1,5 +1,5 @@
 -- Lists of turns.
-use Rattle.std.specs.Prelude.{ℕ, ◌<◌, List, [], ◌∷◌, ◌==◌, nat_lt, if◌then◌else◌, AllPairs}
+use Rattle.std.specs.Prelude.{◌<◌, List, [], ◌∷◌, ◌==◌, nat_lt, if◌then◌else◌, AllPairs}
 use Rattle.door.specs.declared.turn.Turn.{Turn}
 
 module _ {Q A : Type 0} where

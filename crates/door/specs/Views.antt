@@ -1,5 +1,5 @@
 -- What a seat knows, and the stages that it goes through.
-use Rattle.std.specs.Prelude.{ℕ, Bool, true, false, List, [], ◌∷◌, ◌++◌}
+use Rattle.std.specs.Prelude.{ℕ, Bool, true, false, List, [], ◌∷◌}
 use Rattle.door.specs.declared.turn.Turn.{Turn}
 use Rattle.door.specs.declared.view.View.{View}
 use Rattle.door.specs.declared.view.Stage.{Stage}

@@ -1,3 +1,4 @@
 //! The door.
 pub struct Door;
+
 pub struct Pass;

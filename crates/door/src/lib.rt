@@ -8,6 +8,7 @@ mod door;
 mod kept;
 mod object;
 mod plays;
+mod steps;
 mod turn;
 mod view;
 
