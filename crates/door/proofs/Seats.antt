@@ -1,6 +1,7 @@
 -- What stays true of the other seats when one seat's view changes.
 use Rattle.std.proofs.Common.{◌≡◌, ◌≢◌, ℕ, zero, suc, ◌<◌, Bool, true, false, cond, eqb, List, [], ◌∷◌, length, get_or, set, sym, refl, ap, ◌∙◌, subst, ⊎_elim, eq-eqb, ne_eqb, arith}
 use mathlib.Core.Option.{some, some-injective, some-ne-none}
+use mathlib.Core.Path.{Path}
 use mathlib.Core.Logic.{dite}
 use native.Mathlib.Decide.{ℕ_discrete}
 use lib.ListN.{get_elem?}
@@ -30,6 +31,10 @@ at_word (x ∷ xs) zero h = refl
 at_word (x ∷ xs) (suc i) h = at_word xs i (omega arith)
 
 module _ {V : Type 0} where
+  -- the slot that a seat holds
+  pub same_slot : (k l : V) (ks ls : List (ℕ × V)) → Path (List (ℕ × V)) ((0, k) ∷ ks) ((0, l) ∷ ls) → k ≡ l
+  same_slot k l ks ls e = ap (λ (z : List (ℕ × V)). (get_or z 0 (0, k)).1) e
+
   pub within : (l : List V) (i : ℕ) (a : V) → get_elem? l i ≡ some a → i < length l
   within [] i a e = absurd (some-ne-none a (sym e))
   within (x ∷ xs) zero a e = omega arith

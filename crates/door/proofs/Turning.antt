@@ -1,5 +1,5 @@
 -- Drawing a ticket, looking, taking the object and putting it back keep the rule.
-use Rattle.std.proofs.Common.{◌≡◌, ◌≢◌, ℕ, ◌+◌, ◌<◌, ◌≤◌, eqb, true, false, List, [], ◌∷◌, length, get_or, set, sym, refl, ap, ◌∙◌, subst, true≢false, arith}
+use Rattle.std.proofs.Common.{◌≡◌, ◌≢◌, ℕ, ◌+◌, ◌^◌, ◌<◌, ◌≤◌, eqb, true, false, List, [], ◌∷◌, length, get_or, set, sym, refl, ap, ◌∙◌, subst, true≢false, arith}
 use mathlib.Core.Option.{Option, none, some, some-injective}
 use mathlib.Core.Logic.{dite}
 use native.Mathlib.Decide.{ℕ_discrete}
@@ -15,9 +15,9 @@ use Rattle.door.specs.declared.view.View.{View}
 use Rattle.door.specs.declared.view.Stage.{Stage}
 use Rattle.door.specs.declared.view.Stage.TheVariants.{Idle, Waits, Called, Out, Back, Joins}
 use Rattle.door.specs.History.{History, object_after}
-use Rattle.door.specs.Views.{has_ticket, has_turn, is_serving, staged}
+use Rattle.door.specs.Views.{has_ticket, has_turn, is_serving, staged, waiting}
 use Rattle.door.specs.Rule.{Home, InStage, Knows, Rule}
-use Rattle.door.specs.Steps.{Seated, waiting, Draws, Looks, Takes, Carries, PutsBack}
+use Rattle.door.specs.Steps.{Seated, Draws, Looks, Takes, Carries, PutsBack}
 use Rattle.door.proofs.Seats.{not_true, at_word, put, put_here, put_else, within, each, turn_ticket, serving_turn, quiet, HeldBy, held_by}
 
 module _ {O Q A : Type 0} (serves : O → Q → A → O → Type 0) (fits : List (Turn Q A) → Q → Type 0) (opening : O) where
@@ -39,9 +39,9 @@ module _ {O Q A : Type 0} (serves : O → Q → A → O → Type 0) (fits : List
       let vs : set s.views id me.0 ≡ s.views = set_again s.views id me.0 at in
       (me.0, keeps, tt, subst Law (λ k. record { words = sym ws k; homes = s.homes; views = sym vs k }) r, told)
 
-  pub draws : (slots id : ℕ) (me : Seated O Q A) (old new : ℕ) → new ≡ old + 1 → me.0.stage ≡ Idle → me.0.numbers ≢ []
+  pub draws : (slots id : ℕ) (me : Seated O Q A) (old new : ℕ) → new ≡ old + 1 → new < 2 ^ 64 → me.0.stage ≡ Idle → me.0.numbers ≢ []
       → Allows Law slots id me 0 (λ n. either (eqb n old) new n) (Draws (step slots 0 old new none) me)
-  draws slots id me old new is idle numbered s r _ at _ =
+  draws slots id me old new is low idle numbered s r _ at _ =
       let y : ℕ = get_or s.words 0 0 in
       let t : ℕ = r.ticket in
       let sv : ℕ = r.serving in
@@ -64,6 +64,7 @@ module _ {O Q A : Type 0} (serves : O → Q → A → O → Type 0) (fits : List
           history = r.history;
           words = ap (λ (l : List ℕ). set l 0 new) r.words;
           behind = omega arith;
+          bounded = low;
           held = λ n low high. dite (ℕ_discrete n y)
               (λ e. (w, ap (get_elem? (set s.views id w)) (put_here r.holder y id n e) ∙ set_here s.views id w (within s.views id me.0 at), sym e, refl))
               (λ ne. subst (λ (h : ℕ). HeldBy (set s.views id w) h n) (sym (put_else r.holder y id n ne))
@@ -77,6 +78,7 @@ module _ {O Q A : Type 0} (serves : O → Q → A → O → Type 0) (fits : List
                 ticketed = λ _. record { waits = omega arith; drawn = omega arith; holds = put_here r.holder y id y refl };
                 called = λ e. absurd (true≢false (sym e));
                 unnumbered = λ none'. absurd (numbered none');
+                opened = k.opened;
                 in_stage = tt;
                 numbered = k.numbered;
                 listed = k.listed;
@@ -86,6 +88,7 @@ module _ {O Q A : Type 0} (serves : O → Q → A → O → Type 0) (fits : List
                     record { waits = waits; drawn = omega arith; holds = put_else r.holder y id n (λ e. omega arith) ∙ h.holds };
                 called = o.called;
                 unnumbered = o.unnumbered;
+                opened = o.opened;
                 in_stage = o.in_stage;
                 numbered = o.numbered;
                 listed = o.listed;
@@ -104,24 +107,24 @@ module _ {O Q A : Type 0} (serves : O → Q → A → O → Type 0) (fits : List
       ne (sym (o.ticketed (turn_ticket u.stage theirs)).holds ∙ ap r.holder same ∙ (k.ticketed (turn_ticket v.stage mine)).holds))
 
   -- where it isn't serving either, the object is at home
-  at_home : (s : St) (r : Law s) (id : ℕ) (v : View O Q A) → get_elem? s.views id ≡ some v → has_turn v.stage ≡ true → is_serving v.stage ≡ false → Home s.homes (object_after opening r.history)
+  pub at_home : (s : St) (r : Law s) (id : ℕ) (v : View O Q A) → get_elem? s.views id ≡ some v → has_turn v.stage ≡ true → is_serving v.stage ≡ false → Home s.homes (object_after opening r.history)
   at_home s r id v at mine calm = r.home (λ j u there. dite (ℕ_discrete j id)
       (λ e. subst (λ (z : View O Q A). is_serving z.stage ≡ false) (some-injective v u (sym at ∙ ap (get_elem? s.views) (sym e) ∙ there)) calm)
       (λ ne. not_true (is_serving u.stage) (λ busy. true≢false (sym (serving_turn u.stage busy) ∙ alone s r id v at mine j u ne there))))
 
   -- what a seat without the turn knows, it knows wherever the object is
-  elsewhere : (homes homes' : List (Option (Kept O Q A))) (passes : ℕ) (owner : ℕ → ℕ) (id : ℕ) (es : History O Q A) (st : Stage O Q A) → has_turn st ≡ false
-      → InStage serves fits opening homes passes owner id es st → InStage serves fits opening homes' passes owner id es st
-  elsewhere homes homes' passes owner id es Idle calm k = k
-  elsewhere homes homes' passes owner id es Waits calm k = k
-  elsewhere homes homes' passes owner id es Called calm k = k
-  elsewhere homes homes' passes owner id es (Out x) calm k = absurd (true≢false calm)
-  elsewhere homes homes' passes owner id es (Back x q a) calm k = absurd (true≢false calm)
-  elsewhere homes homes' passes owner id es (Joins ns ts) calm k = k
+  elsewhere : (homes homes' : List (Option (Kept O Q A))) (passes : ℕ) (owner : ℕ → ℕ) (id : ℕ) (mine : List ℕ) (es : History O Q A) (st : Stage O Q A) → has_turn st ≡ false
+      → InStage serves fits opening homes passes owner id mine es st → InStage serves fits opening homes' passes owner id mine es st
+  elsewhere homes homes' passes owner id mine es Idle calm k = k
+  elsewhere homes homes' passes owner id mine es Waits calm k = k
+  elsewhere homes homes' passes owner id mine es Called calm k = k
+  elsewhere homes homes' passes owner id mine es (Out x) calm k = absurd (true≢false calm)
+  elsewhere homes homes' passes owner id mine es (Back x q a) calm k = absurd (true≢false calm)
+  elsewhere homes homes' passes owner id mine es (Joins ns ts) calm k = k
 
   -- the seat that has the turn goes to another stage of it, in which it is serving, and the object moves
   serving_goes : (s : St) (r : Law s) (id : ℕ) (v : View O Q A) (st : Stage O Q A) (homes' : List (Option (Kept O Q A))) → get_elem? s.views id ≡ some v → has_turn v.stage ≡ true
-      → is_serving st ≡ true → InStage serves fits opening homes' r.passes r.owner id r.history st
+      → is_serving st ≡ true → InStage serves fits opening homes' r.passes r.owner id v.numbers r.history st
       → Law record { words = set s.words 1 (get_or s.words 1 0); homes = homes'; views = set s.views id (staged v st) }
   serving_goes s r id v st homes' at mine busy stage =
       let w : View O Q A = staged v st in let k = r.seats id v at in
@@ -134,6 +137,7 @@ module _ {O Q A : Type 0} (serves : O → Q → A → O → Type 0) (fits : List
         history = r.history;
         words = ap (λ (l : List ℕ). set l 1 (get_or l 1 0)) r.words;
         behind = r.behind;
+        bounded = r.bounded;
         held = λ n low high. held_by s.views id v w (r.holder n) n at (r.held n low high) (λ e _. (e, turn_ticket st turn));
         served = r.served;
         legal = r.legal;
@@ -144,6 +148,7 @@ module _ {O Q A : Type 0} (serves : O → Q → A → O → Type 0) (fits : List
               ticketed = λ _. k.ticketed (turn_ticket v.stage mine);
               called = λ _. k.called mine;
               unnumbered = λ none'. absurd (true≢false (sym (turn_ticket v.stage mine) ∙ k.unnumbered none'));
+              opened = k.opened;
               in_stage = stage;
               numbered = k.numbered;
               listed = k.listed;
@@ -152,7 +157,8 @@ module _ {O Q A : Type 0} (serves : O → Q → A → O → Type 0) (fits : List
               ticketed = o.ticketed;
               called = o.called;
               unnumbered = o.unnumbered;
-              in_stage = elsewhere s.homes homes' r.passes r.owner j r.history u.stage (alone s r id v at mine j u ne there) o.in_stage;
+              opened = o.opened;
+              in_stage = elsewhere s.homes homes' r.passes r.owner j u.numbers r.history u.stage (alone s r id v at mine j u ne there) o.in_stage;
               numbered = o.numbered;
               listed = o.listed;
             });
@@ -179,6 +185,7 @@ module _ {O Q A : Type 0} (serves : O → Q → A → O → Type 0) (fits : List
           history = r.history;
           words = ap (λ (l : List ℕ). set l 1 (get_or l 1 0)) r.words;
           behind = r.behind;
+          bounded = r.bounded;
           held = λ n low high. held_by s.views id me.0 w (r.holder n) n at (r.held n low high) (λ e _. (e, refl));
           served = r.served;
           legal = r.legal;
@@ -189,6 +196,7 @@ module _ {O Q A : Type 0} (serves : O → Q → A → O → Type 0) (fits : List
                 ticketed = λ _. k.ticketed has;
                 called = λ _. sym hit ∙ now;
                 unnumbered = λ none'. absurd (true≢false (sym has ∙ k.unnumbered none'));
+                opened = k.opened;
                 in_stage = tt;
                 numbered = k.numbered;
                 listed = k.listed;
@@ -214,7 +222,7 @@ module _ {O Q A : Type 0} (serves : O → Q → A → O → Type 0) (fits : List
       → Allows Law slots id me 1 (λ n. n) (PutsBack (step slots 1 0 0 none) me)
   puts_back slots id me x k e out carries serve s r _ at _ =
       let known = r.seats id me.0 at in
-      let place = subst (InStage serves fits opening s.homes r.passes r.owner id r.history) out known.in_stage in
+      let place = subst (InStage serves fits opening s.homes r.passes r.owner id me.0.numbers r.history) out known.in_stage in
       let back : put_back s.homes me.1 ≡ some k ∷ [] = ap (put_back s.homes) carries.0 ∙ ap (λ (l : List (Option (Kept O Q A))). set l 0 (some k)) place.0 in (
         staged me.0 (Back k.object e.ask.value e.answer.value),
         gives,

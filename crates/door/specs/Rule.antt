@@ -1,6 +1,6 @@
 -- The rule of a door's table, which each step keeps.
 -- The words are `ticket`, the next ticket; `serving`, the number of turns served; and `passes`, the next number of a pass. The one slot has the object.
-use Rattle.std.specs.Prelude.{◌≡◌, ℕ, ◌<◌, ◌≤◌, true, false, List, [], ◌∷◌, length, All}
+use Rattle.std.specs.Prelude.{◌≡◌, ℕ, ◌^◌, ◌<◌, ◌≤◌, true, false, List, [], ◌∷◌, length, All, Contains, Some}
 use mathlib.Core.Option.{Option, none, some}
 use lib.ListN.{get_elem?}
 use Rattle.atomic_table.specs.Table.{State}
@@ -28,14 +28,14 @@ module _ {O Q A : Type 0} where
   Home homes x = (k : Kept O Q A) × (homes ≡ some k ∷ []) × (k.object ≡ x)
 
   module _ (serves : O → Q → A → O → Type 0) (fits : List (Turn Q A) → Q → Type 0) (opening : O) where
-    -- where the object is while this seat has the turn, or whose turns the seat takes over
-    abbrev pub InStage : List (Option (Kept O Q A)) → ℕ → (ℕ → ℕ) → ℕ → History O Q A → Stage O Q A → Type 0
-    InStage homes passes owner id es Idle = Unit {0}
-    InStage homes passes owner id es Waits = Unit {0}
-    InStage homes passes owner id es Called = Unit {0}
-    InStage homes passes owner id es (Out x) = (homes ≡ none ∷ []) × (x ≡ object_after opening es)
-    InStage homes passes owner id es (Back x q a) = Home homes x × serves (object_after opening es) q a x
-    InStage homes passes owner id es (Joins ns ts) = Owns passes owner id ns × AreTurnsOf es ns ts
+    -- where the object is while this seat has the turn, or which other numbers and turns the seat takes over
+    abbrev pub InStage : List (Option (Kept O Q A)) → ℕ → (ℕ → ℕ) → ℕ → List ℕ → History O Q A → Stage O Q A → Type 0
+    InStage homes passes owner id mine es Idle = Unit {0}
+    InStage homes passes owner id mine es Waits = Unit {0}
+    InStage homes passes owner id mine es Called = Unit {0}
+    InStage homes passes owner id mine es (Out x) = (homes ≡ none ∷ []) × (x ≡ object_after opening es)
+    InStage homes passes owner id mine es (Back x q a) = Home homes x × serves (object_after opening es) q a x
+    InStage homes passes owner id mine es (Joins ns ts) = Owns passes owner id ns × AreTurnsOf es ns ts × All (λ (n : ℕ). Contains mine n → ⊥) ns
 
     pub record Knows (homes : List (Option (Kept O Q A))) (ticket serving passes : ℕ) (holder owner : ℕ → ℕ) (es : History O Q A) (id : ℕ) (v : View O Q A) : Type 0 where
       -- a seat with a ticket holds one that waits
@@ -44,7 +44,9 @@ module _ {O Q A : Type 0} where
       pub called : has_turn v.stage ≡ true → v.ticket ≡ serving
       -- a pass without a number has no ticket
       pub unnumbered : v.numbers ≡ [] → has_ticket v.stage ≡ false
-      pub in_stage : InStage homes passes owner id es v.stage
+      -- the opening object is the door's
+      pub opened : (x : O) → v.opening ≡ Some x → x ≡ opening
+      pub in_stage : InStage homes passes owner id v.numbers es v.stage
       pub numbered : Owns passes owner id v.numbers
       pub listed : AreTurnsOf es v.numbers v.turns
 
@@ -58,6 +60,7 @@ module _ {O Q A : Type 0} where
       pub history : History O Q A
       pub words : s.words ≡ ticket ∷ serving ∷ passes ∷ []
       pub behind : serving ≤ ticket
+      pub bounded : ticket < 2 ^ 64
       -- each number from `serving` up to below `ticket` is held by a seat, and by `ticketed` by no other
       pub held : (n : ℕ) → serving ≤ n → n < ticket → (v : View O Q A) × (get_elem? s.views (holder n) ≡ some v) × (v.ticket ≡ n) × (has_ticket v.stage ≡ true)
       -- the history has as many turns as were served; each fits the list of its pass, and has a number that was drawn

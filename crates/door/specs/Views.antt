@@ -1,5 +1,5 @@
 -- What a seat knows, and the stages that it goes through.
-use Rattle.std.specs.Prelude.{ℕ, Bool, true, false, List, [], ◌∷◌}
+use Rattle.std.specs.Prelude.{ℕ, Bool, true, false, List, [], ◌∷◌, Option, Some, None}
 use Rattle.door.specs.declared.turn.Turn.{Turn}
 use Rattle.door.specs.declared.view.View.{View}
 use Rattle.door.specs.declared.view.Stage.{Stage}
@@ -31,23 +31,27 @@ module _ {O Q A : Type 0} where
   is_serving (Back x q a) = true
   is_serving (Joins ns ts) = false
 
-  abbrev pub at_rest : List ℕ → List (Turn Q A) → View O Q A
-  at_rest numbers turns = record { numbers = numbers; turns = turns; ticket = 0; stage = Idle }
+  abbrev pub at_rest : Option O → List ℕ → List (Turn Q A) → View O Q A
+  at_rest opening numbers turns = record { opening = opening; numbers = numbers; turns = turns; ticket = 0; stage = Idle }
 
   -- the view of the first pass
-  abbrev pub first_view : View O Q A
-  first_view = at_rest (0 ∷ []) []
+  abbrev pub first_view : O → View O Q A
+  first_view opening = at_rest (Some opening) (0 ∷ []) []
 
   -- a spent view holds nothing
   abbrev pub spent_view : View O Q A
-  spent_view = at_rest [] []
+  spent_view = at_rest None [] []
 
   -- a split view begins with its parent's list, without a number
   abbrev pub split_view : View O Q A → View O Q A
-  split_view v = at_rest [] v.turns
-
-  abbrev pub joining : View O Q A → View O Q A → View O Q A
-  joining v w = record { numbers = v.numbers; turns = v.turns; ticket = v.ticket; stage = Joins w.numbers w.turns }
+  split_view v = at_rest v.opening [] v.turns
 
   abbrev pub staged : View O Q A → Stage O Q A → View O Q A
-  staged v st = record { numbers = v.numbers; turns = v.turns; ticket = v.ticket; stage = st }
+  staged v st = record { opening = v.opening; numbers = v.numbers; turns = v.turns; ticket = v.ticket; stage = st }
+
+  abbrev pub waiting : View O Q A → ℕ → View O Q A
+  waiting v n = record { opening = v.opening; numbers = v.numbers; turns = v.turns; ticket = n; stage = Waits }
+
+  -- the view takes over what another stands for
+  abbrev pub joining : View O Q A → View O Q A → View O Q A
+  joining v w = staged v (Joins w.numbers w.turns)

@@ -1,5 +1,6 @@
 //! What the slot of a door's table holds.
-ghost use Rattle.std.specs.Prelude.{◌≡◌, IfSome};
+ghost use Rattle.std.specs.Prelude.{◌≡◌, Some};
+ghost use Rattle.door.specs.declared.kept.Exchange.{Exchange};
 
 use crate::object::{Answer, Object};
 use std::snapshot::Snapshot;
@@ -23,7 +24,7 @@ impl<O: Object> Kept<O, O::Ask, Answer<O>> {
     pub(crate) fn serve(&mut self, ask: &O::Ask) -> Answer<O>
         requires { O.may_serve ask.now }
         ensures served { O.serves self.old.object ask.now result self.new.object }
-        ensures noted { IfSome self.new.last (λ e. (e.ask.value ≡ ask.now) × (e.answer.value ≡ result)) }
+        ensures noted { (e : Exchange _ _) × (self.new.last ≡ Some e) × (e.ask.value ≡ ask.now) × (e.answer.value ≡ result) }
     {
         let answer = self.object.serve(ask);
         self.last = Some(Exchange {
@@ -31,5 +32,18 @@ impl<O: Object> Kept<O, O::Ask, Answer<O>> {
             answer: Snapshot::of(&answer),
         });
         answer
+    }
+
+    pub(crate) fn new(object: O) -> Kept<O, O::Ask, Answer<O>>
+        ensures { result.object ≡ object }
+    {
+        Kept { object, last: None }
+    }
+
+    pub(crate) fn into_object(self) -> O
+        ensures { result ≡ self.object }
+    {
+        let Kept { object, last: _ } = self;
+        object
     }
 }

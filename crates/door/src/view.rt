@@ -19,6 +19,8 @@ pub enum Stage<O, Q, A> {
 }
 
 pub struct View<O, Q, A> {
+    /// The object that the door opened with. A seat that was joined to another has none.
+    pub opening: Option<O>,
     /// The numbers of the passes that it stands for, its own first. A pass that has no number yet has none.
     pub numbers: LinkedList<u64>,
     /// The turns of these passes, and those with which they began.
