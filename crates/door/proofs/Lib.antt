@@ -6,3 +6,4 @@ pub mod Merging
 pub mod Passes
 pub mod Ends
 pub mod Rests
+pub mod Crossing
