@@ -8,8 +8,8 @@ use std::alloc::{AllocError, Global};
 use std::sync::Wait;
 use std::thread::{Threads, join};
 
-// Counts 1 so many times.
-fn count<R: Wait>(
+/// Counts 1 so many times.
+pub fn count<R: Wait>(
     rt: &R,
     door: &Door<Counter>,
     mut pass: Pass<Counter>,
