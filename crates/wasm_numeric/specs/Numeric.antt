@@ -25,45 +25,45 @@ bits int.I32 = 32
 bits int.I64 = 64
 
 -- t.eqz
-abbrev pub tested : IntType → ℕ → ℕ
-tested of i = ieqz (bits of) i
+abbrev pub test_value : IntType → ℕ → ℕ
+test_value of i = ieqz (bits of) i
 
 -- t.relop
-abbrev pub compared : IntType → CompareOp → ℕ → ℕ → ℕ
-compared of Eq i j = ieq (bits of) i j
-compared of Ne i j = ine (bits of) i j
-compared of LtS i j = ilt_s (bits of) i j
-compared of LtU i j = ilt_u (bits of) i j
-compared of GtS i j = igt_s (bits of) i j
-compared of GtU i j = igt_u (bits of) i j
-compared of LeS i j = ile_s (bits of) i j
-compared of LeU i j = ile_u (bits of) i j
-compared of GeS i j = ige_s (bits of) i j
-compared of GeU i j = ige_u (bits of) i j
+abbrev pub compare_value : IntType → CompareOp → ℕ → ℕ → ℕ
+compare_value of Eq i j = ieq (bits of) i j
+compare_value of Ne i j = ine (bits of) i j
+compare_value of LtS i j = ilt_s (bits of) i j
+compare_value of LtU i j = ilt_u (bits of) i j
+compare_value of GtS i j = igt_s (bits of) i j
+compare_value of GtU i j = igt_u (bits of) i j
+compare_value of LeS i j = ile_s (bits of) i j
+compare_value of LeU i j = ile_u (bits of) i j
+compare_value of GeS i j = ige_s (bits of) i j
+compare_value of GeU i j = ige_u (bits of) i j
 
 -- t.unop
-abbrev pub counted : IntType → UnaryOp → ℕ → ℕ
-counted of Clz i = iclz (bits of) i
-counted of Ctz i = ictz (bits of) i
-counted of Popcnt i = ipopcnt (bits of) i
+abbrev pub unary_value : IntType → UnaryOp → ℕ → ℕ
+unary_value of Clz i = iclz (bits of) i
+unary_value of Ctz i = ictz (bits of) i
+unary_value of Popcnt i = ipopcnt (bits of) i
 
 -- t.binop, or why it traps
-abbrev pub combined : IntType → BinaryOp → ℕ → ℕ → Result ℕ Cause
-combined of Add i j = Ok (iadd (bits of) i j)
-combined of Sub i j = Ok (isub (bits of) i j)
-combined of Mul i j = Ok (imul (bits of) i j)
-combined of DivS i j = idiv_s (bits of) i j
-combined of DivU i j = idiv_u (bits of) i j
-combined of RemS i j = irem_s (bits of) i j
-combined of RemU i j = irem_u (bits of) i j
-combined of And i j = Ok (iand (bits of) i j)
-combined of Or i j = Ok (ior (bits of) i j)
-combined of Xor i j = Ok (ixor (bits of) i j)
-combined of Shl i j = Ok (ishl (bits of) i j)
-combined of ShrS i j = Ok (ishr_s (bits of) i j)
-combined of ShrU i j = Ok (ishr_u (bits of) i j)
-combined of Rotl i j = Ok (irotl (bits of) i j)
-combined of Rotr i j = Ok (irotr (bits of) i j)
+abbrev pub binary_value : IntType → BinaryOp → ℕ → ℕ → Result ℕ Cause
+binary_value of Add i j = Ok (iadd (bits of) i j)
+binary_value of Sub i j = Ok (isub (bits of) i j)
+binary_value of Mul i j = Ok (imul (bits of) i j)
+binary_value of DivS i j = idiv_s (bits of) i j
+binary_value of DivU i j = idiv_u (bits of) i j
+binary_value of RemS i j = irem_s (bits of) i j
+binary_value of RemU i j = irem_u (bits of) i j
+binary_value of And i j = Ok (iand (bits of) i j)
+binary_value of Or i j = Ok (ior (bits of) i j)
+binary_value of Xor i j = Ok (ixor (bits of) i j)
+binary_value of Shl i j = Ok (ishl (bits of) i j)
+binary_value of ShrS i j = Ok (ishr_s (bits of) i j)
+binary_value of ShrU i j = Ok (ishr_u (bits of) i j)
+binary_value of Rotl i j = Ok (irotl (bits of) i j)
+binary_value of Rotr i j = Ok (irotr (bits of) i j)
 
 -- the type of what a conversion takes, and of what it gives
 abbrev pub source : ConvertOp → IntType
@@ -77,11 +77,11 @@ target ExtendS = int.I64
 target ExtendU = int.I64
 
 -- t2.cvtop_t1
-abbrev pub converted : ConvertOp → ℕ → ℕ
-converted Wrap i = wrap 64 32 i
-converted ExtendS i = extend_s 32 64 i
-converted ExtendU i = extend_u 32 64 i
+abbrev pub convert_value : ConvertOp → ℕ → ℕ
+convert_value Wrap i = wrap 64 32 i
+convert_value ExtendS i = extend_s 32 64 i
+convert_value ExtendU i = extend_u 32 64 i
 
 -- what a load gives for the number that its bytes stand for (4.4.4)
-abbrev pub loaded : LoadOp → ℕ → ℕ
-loaded op n = let M = 8 * 2 ^ load_exponent op in let N = bits (load_type op) in if load_is_signed op then extend_s M N n else extend_u M N n
+abbrev pub load_value : LoadOp → ℕ → ℕ
+load_value op n = let M = 8 * 2 ^ load_exponent op in let N = bits (load_type op) in if load_is_signed op then extend_s M N n else extend_u M N n

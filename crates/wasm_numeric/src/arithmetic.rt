@@ -1,7 +1,7 @@
 //! Operators with a result of the type of their operands: `iunop` and `ibinop` of section 2.4.1.
 
 ghost use Rattle.std.specs.Prelude.{◌≡◌, ◌<◌, ◌^◌, IfOk};
-ghost use Rattle.wasm_numeric.specs.Numeric.{bits, counted, combined};
+ghost use Rattle.wasm_numeric.specs.Numeric.{bits, unary_value, binary_value};
 
 use int_ops::{
     Cause, i32_add, i32_and, i32_clz, i32_ctz, i32_div_s, i32_div_u, i32_mul, i32_or, i32_popcnt,
@@ -14,7 +14,7 @@ use wasm_ast::{BinaryOp, IntType, UnaryOp};
 /// A count of bits of the operand.
 pub fn unary(of: IntType, op: UnaryOp, a: u64) -> u64
     requires { a < 2 ^ bits of }
-    ensures value { result ≡ counted of op a }
+    ensures value { result ≡ unary_value of op a }
     ensures bound { result < 2 ^ bits of }
 {
     match of {
@@ -24,7 +24,7 @@ pub fn unary(of: IntType, op: UnaryOp, a: u64) -> u64
 }
 
 fn unary_i32(op: UnaryOp, a: u32) -> u32
-    ensures { result ≡ counted IntType.I32 op a }
+    ensures { result ≡ unary_value IntType.I32 op a }
 {
     match op {
         UnaryOp::Clz => i32_clz(a),
@@ -34,7 +34,7 @@ fn unary_i32(op: UnaryOp, a: u32) -> u32
 }
 
 fn unary_i64(op: UnaryOp, a: u64) -> u64
-    ensures { result ≡ counted IntType.I64 op a }
+    ensures { result ≡ unary_value IntType.I64 op a }
 {
     match op {
         UnaryOp::Clz => i64_clz(a),
@@ -48,7 +48,7 @@ fn unary_i64(op: UnaryOp, a: u64) -> u64
 pub fn binary(of: IntType, op: BinaryOp, a: u64, b: u64) -> Result<u64, Cause>
     requires first { a < 2 ^ bits of }
     requires second { b < 2 ^ bits of }
-    ensures value { result ≡ combined of op a b }
+    ensures value { result ≡ binary_value of op a b }
     ensures bound { IfOk result (λ n. n < 2 ^ bits of) }
 {
     match of {
@@ -61,7 +61,7 @@ pub fn binary(of: IntType, op: BinaryOp, a: u64, b: u64) -> Result<u64, Cause>
 }
 
 fn binary_i32(op: BinaryOp, a: u32, b: u32) -> Result<u32, Cause>
-    ensures { result ≡ combined IntType.I32 op a b }
+    ensures { result ≡ binary_value IntType.I32 op a b }
 {
     match op {
         BinaryOp::Add => Ok(i32_add(a, b)),
@@ -83,7 +83,7 @@ fn binary_i32(op: BinaryOp, a: u32, b: u32) -> Result<u32, Cause>
 }
 
 fn binary_i64(op: BinaryOp, a: u64, b: u64) -> Result<u64, Cause>
-    ensures { result ≡ combined IntType.I64 op a b }
+    ensures { result ≡ binary_value IntType.I64 op a b }
 {
     match op {
         BinaryOp::Add => Ok(i64_add(a, b)),

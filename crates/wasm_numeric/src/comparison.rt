@@ -1,7 +1,7 @@
 //! Tests and comparisons: `itestop` and `irelop` of section 2.4.1.
 
 ghost use Rattle.std.specs.Prelude.{◌≡◌, ◌<◌, ◌^◌};
-ghost use Rattle.wasm_numeric.specs.Numeric.{bits, tested, compared};
+ghost use Rattle.wasm_numeric.specs.Numeric.{bits, test_value, compare_value};
 
 use int_ops::{
     i32_eq, i32_eqz, i32_ge_s, i32_ge_u, i32_gt_s, i32_gt_u, i32_le_s, i32_le_u, i32_lt_s,
@@ -13,7 +13,7 @@ use wasm_ast::{CompareOp, IntType};
 /// `eqz`: 1 where the operand is 0, and 0 elsewhere.
 pub fn test(of: IntType, a: u64) -> u64
     requires { a < 2 ^ bits of }
-    ensures value { result ≡ tested of a }
+    ensures value { result ≡ test_value of a }
     ensures bound { result < 2 ^ 32 }
 {
     match of {
@@ -26,7 +26,7 @@ pub fn test(of: IntType, a: u64) -> u64
 pub fn compare(of: IntType, op: CompareOp, a: u64, b: u64) -> u64
     requires first { a < 2 ^ bits of }
     requires second { b < 2 ^ bits of }
-    ensures value { result ≡ compared of op a b }
+    ensures value { result ≡ compare_value of op a b }
     ensures bound { result < 2 ^ 32 }
 {
     match of {
@@ -36,7 +36,7 @@ pub fn compare(of: IntType, op: CompareOp, a: u64, b: u64) -> u64
 }
 
 fn compare_i32(op: CompareOp, a: u32, b: u32) -> u32
-    ensures { result ≡ compared IntType.I32 op a b }
+    ensures { result ≡ compare_value IntType.I32 op a b }
 {
     match op {
         CompareOp::Eq => i32_eq(a, b),
@@ -53,7 +53,7 @@ fn compare_i32(op: CompareOp, a: u32, b: u32) -> u32
 }
 
 fn compare_i64(op: CompareOp, a: u64, b: u64) -> u32
-    ensures { result ≡ compared IntType.I64 op a b }
+    ensures { result ≡ compare_value IntType.I64 op a b }
 {
     match op {
         CompareOp::Eq => i64_eq(a, b),

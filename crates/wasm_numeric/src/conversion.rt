@@ -3,7 +3,7 @@
 
 ghost use Rattle.std.specs.Prelude.{◌≡◌, ◌<◌, ◌^◌, ◌*◌};
 ghost use Rattle.wasm_ast.specs.Operators.{load_type, load_exponent};
-ghost use Rattle.wasm_numeric.specs.Numeric.{bits, source, target, converted, loaded};
+ghost use Rattle.wasm_numeric.specs.Numeric.{bits, source, target, convert_value, load_value};
 
 use int_ops::{
     i32_extend8_s, i32_extend16_s, i32_wrap_i64, i64_extend_i32_s, i64_extend_i32_u, i64_extend8_s,
@@ -14,7 +14,7 @@ use wasm_ast::{ConvertOp, LoadOp};
 /// The operand in the other type.
 pub fn convert(op: ConvertOp, a: u64) -> u64
     requires { a < 2 ^ bits (source op) }
-    ensures value { result ≡ converted op a }
+    ensures value { result ≡ convert_value op a }
     ensures bound { result < 2 ^ bits (target op) }
 {
     match op {
@@ -27,7 +27,7 @@ pub fn convert(op: ConvertOp, a: u64) -> u64
 /// The value that a load gives for the number that its bytes stand for.
 pub fn extend_loaded(op: LoadOp, n: u64) -> u64
     requires { n < 2 ^ (8 * 2 ^ load_exponent op) }
-    ensures value { result ≡ loaded op n }
+    ensures value { result ≡ load_value op n }
     ensures bound { result < 2 ^ bits (load_type op) }
 {
     match op {
