@@ -84,6 +84,9 @@ def measured(repository, folder, files):
             sys.exit(done.stdout[-2000:] + done.stderr[-2000:])
         yield {os.path.basename(row[0]): row[1:] for row in rows}
 
+def milliseconds(times):
+    return "/".join(f"{int(time) / 1000:.1f}" for time in times)
+
 def main():
     repositories = [os.path.abspath(path) for path in sys.argv[1:]] or [os.path.dirname(os.path.dirname(HERE))]
     with tempfile.TemporaryDirectory() as folder:
@@ -96,7 +99,7 @@ def main():
         columns = [times for repository in repositories for times in measured(repository, folder, files)]
     print("decode/validate/encode, milliseconds; two runs of " + ", and of ".join(repositories))
     for name, data in MODULES.items():
-        print(f"{name:22} {len(data):8} " + "   ".join(f"{'/'.join(column[name]):>16}" for column in columns))
+        print(f"{name:22} {len(data):8} " + "   ".join(f"{milliseconds(column[name]):>20}" for column in columns))
 
 if __name__ == "__main__":
     main()

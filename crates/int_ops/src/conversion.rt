@@ -1,4 +1,4 @@
-//! The conversions between `i32` and `i64` (WebAssembly Core 1.0, 4.3.4).
+//! The conversions between `i32` and `i64` (WebAssembly Core 1.0, 4.3.4), and the extension of their low bits by a sign.
 
 #![tactic(auto, unfolding(crate::specs::Conversion::wrap, crate::specs::Conversion::extend_u))]
 
@@ -24,4 +24,39 @@ pub fn i64_extend_i32_u(a: u32) -> u64
     ensures { result ≡ extend_u 32 64 a }
 {
     u64::from(a)
+}
+
+/// The low 8 bits of `a`, read as signed, in 32 bits.
+pub fn i32_extend8_s(a: u32) -> u32
+    ensures { result ≡ extend_s 8 32 (wrap 32 8 a) }
+{
+    i32::from(((a % 0x100) as u8).cast_signed()).cast_unsigned()
+}
+
+/// The low 16 bits of `a`, read as signed, in 32 bits.
+pub fn i32_extend16_s(a: u32) -> u32
+    ensures { result ≡ extend_s 16 32 (wrap 32 16 a) }
+{
+    i32::from(((a % 0x1_0000) as u16).cast_signed()).cast_unsigned()
+}
+
+/// The low 8 bits of `a`, read as signed, in 64 bits.
+pub fn i64_extend8_s(a: u64) -> u64
+    ensures { result ≡ extend_s 8 64 (wrap 64 8 a) }
+{
+    i64::from(((a % 0x100) as u8).cast_signed()).cast_unsigned()
+}
+
+/// The low 16 bits of `a`, read as signed, in 64 bits.
+pub fn i64_extend16_s(a: u64) -> u64
+    ensures { result ≡ extend_s 16 64 (wrap 64 16 a) }
+{
+    i64::from(((a % 0x1_0000) as u16).cast_signed()).cast_unsigned()
+}
+
+/// The low 32 bits of `a`, read as signed, in 64 bits.
+pub fn i64_extend32_s(a: u64) -> u64
+    ensures { result ≡ extend_s 32 64 (wrap 64 32 a) }
+{
+    i64::from(((a % 0x1_0000_0000) as u32).cast_signed()).cast_unsigned()
 }

@@ -27,5 +27,8 @@ pub use comparison::{
     i32_lt_u, i32_ne, i64_eq, i64_eqz, i64_ge_s, i64_ge_u, i64_gt_s, i64_gt_u, i64_le_s, i64_le_u,
     i64_lt_s, i64_lt_u, i64_ne,
 };
-pub use conversion::{i32_wrap_i64, i64_extend_i32_s, i64_extend_i32_u};
+pub use conversion::{
+    i32_extend8_s, i32_extend16_s, i32_wrap_i64, i64_extend_i32_s, i64_extend_i32_u, i64_extend8_s,
+    i64_extend16_s, i64_extend32_s,
+};
 pub use trap::Cause;

@@ -1,1 +1,3 @@
 pub mod LinearMemory
+pub mod Storage
+pub mod Accesses

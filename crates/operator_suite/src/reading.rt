@@ -1,6 +1,5 @@
 //! Items from the front of bytes.
 
-use super::hex_digits;
 use byte_cursor::{Cursor, CursorFault};
 use std::alloc::{AllocError, Global};
 use std::fmt;
@@ -32,11 +31,12 @@ impl fmt::Display for Found {
     }
 }
 
-/// The bytes that digits of hexadecimal spell, two a byte. What are no digits count as 0.
-pub fn bytes_of(alloc: Global, digits: &str) -> Result<Vec<u8>, AllocError> {
+/// The bytes of words of two digits in hexadecimal.
+pub fn bytes_of(alloc: Global, words: &str) -> anyhow::Result<Vec<u8>> {
     let mut bytes = Vec::new(alloc);
-    for word in digits.split_whitespace() {
-        bytes.push(hex_digits(word).unwrap_or(0) as u8)?;
+    for word in words.split_whitespace() {
+        let byte = u8::from_str_radix(word, 16)?;
+        bytes.push(byte).map_err(AllocError::from)?;
     }
     Ok(bytes)
 }

@@ -3,8 +3,8 @@ use Rattle.std.proofs.Common.{◌≡◌, ◌⊎◌, ℕ, Bool, true, false, cond
 use Rattle.std.proofs.lemmas.List.Sums.{sum_by-cons}
 use Rattle.std.proofs.lemmas.Grind.{common_steps}
 use Rattle.std.specs.List.{slice_index}
-use Rattle.linear_memory.specs.LinearMemory.{range_of}
-use Rattle.wasix_abi.specs.Buffers.{Buffer, buffers_at, is_within, all_within, total_len, gathered}
+use Rattle.linear_memory.specs.LinearMemory.{is_within, range_of}
+use Rattle.wasix_abi.specs.Buffers.{Buffer, buffers_at, all_within, total_len, gathered}
 use Rattle.wasix_abi.specs.Requests.{nine_words, list_refusal, WritesAtMost}
 
 -- the error number, by whether all lies within the memory and whether the list is short enough

@@ -1,17 +1,17 @@
 -- Lists of buffers in a memory (WASI preview 1, `ciovec_array`): an entry has eight bytes, four for
 -- the buffer's address and four for its length, each number with its lowest byte first.
-use Rattle.std.specs.Prelude.{ℕ, zero, suc, Bool, ◌+◌, nat_le, List, [], ◌∷◌, length, sum_by}
+use Rattle.std.specs.Prelude.{ℕ, zero, suc, Bool, ◌+◌, List, [], ◌∷◌, sum_by}
 use Rattle.std.specs.List.{list_all, flat_map}
-use Rattle.std.specs.Int.{w32, from_le_bytes}
-use Rattle.linear_memory.specs.LinearMemory.{range_of}
+use Rattle.linear_memory.specs.LinearMemory.{is_within, range_of}
+use Rattle.linear_memory.specs.Accesses.{number_at}
 
 pub record Buffer : Type 0 where
   pub address : ℕ
   pub len : ℕ
 
 -- the number in the four bytes at an address
-unfoldable pub word_at : List ℕ → ℕ → ℕ
-word_at memory at = from_le_bytes w32 (range_of memory at 4)
+abbrev pub word_at : List ℕ → ℕ → ℕ
+word_at memory at = number_at memory at 4
 
 -- the buffer that the entry at an address names
 abbrev pub buffer_at : List ℕ → ℕ → Buffer
@@ -21,10 +21,6 @@ buffer_at memory at = record { address = word_at memory at; len = word_at memory
 abbrev pub buffers_at : List ℕ → ℕ → ℕ → List Buffer
 buffers_at memory at zero = []
 buffers_at memory at (suc n) = buffer_at memory at ∷ buffers_at memory (at + 8) n
-
--- whether so many bytes at an address lie within the memory
-abbrev pub is_within : List ℕ → ℕ → ℕ → Bool
-is_within memory at len = nat_le (at + len) (length memory)
 
 -- whether each of the buffers lies within the memory
 abbrev pub all_within : List ℕ → List Buffer → Bool

@@ -1,7 +1,7 @@
 -- What the reply to a request writes to the caller's memory.
 use Rattle.std.specs.Prelude.{ℕ, ◌==◌, ◌&&◌, if◌then◌else◌, List, length, slice_index}
-use Rattle.std.specs.Int.{w32, to_le_bytes}
 use Rattle.linear_memory.specs.LinearMemory.{with_bytes}
+use Rattle.linear_memory.specs.Storage.{bytes_of}
 use Rattle.wx_types.specs.declared.requests.Request.{Request}
 use Rattle.wasix_abi.specs.Requests.{fd_write}
 
@@ -10,5 +10,5 @@ use Rattle.wasix_abi.specs.Requests.{fd_write}
 abbrev pub apply_reply : List ℕ → Request → ℕ → List ℕ → List ℕ
 apply_reply memory request errno bytes =
     if request.call == fd_write && errno == 0
-    then with_bytes memory (slice_index request.words 3) (to_le_bytes w32 (length bytes))
+    then with_bytes memory (slice_index request.words 3) (bytes_of 4 (length bytes))
     else memory

@@ -3,7 +3,8 @@ use Rattle.std.specs.Prelude.{◌≡◌, ℕ, ◌+◌, ◌*◌, ◌≤◌, ◌<�
 use Rattle.wx_types.specs.Errno.{errno_number}
 use Rattle.wx_types.specs.declared.errors.Errno.TheVariants.{Success, Fault, Inval}
 use Rattle.wx_types.specs.declared.requests.Request.{Request}
-use Rattle.wasix_abi.specs.Buffers.{buffers_at, is_within, all_within, total_len, gathered}
+use Rattle.linear_memory.specs.LinearMemory.{is_within}
+use Rattle.wasix_abi.specs.Buffers.{buffers_at, all_within, total_len, gathered}
 
 -- the numbers of the calls: the return of a thread's last frame, `fd_write` and `proc_exit`
 abbrev pub last_return : ℕ

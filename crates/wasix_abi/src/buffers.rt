@@ -1,34 +1,35 @@
-// Lists of buffers in a memory (WASI preview 1, `ciovec_array`).
-ghost use Rattle.std.specs.Prelude.{◌≡◌, ◌≤◌, ◌+◌, ◌*◌, ◌^◌, ◌<◌, length, true, false, IfOk, MatchOption};
+// Lists of buffers in a memory.
+ghost use Rattle.std.specs.Prelude.{◌≡◌, ◌≤◌, ◌<◌, ◌+◌, ◌*◌, ◌^◌, length, true, false, IfOk, MatchOption};
 ghost use Rattle.wasix_abi.specs.Buffers.{word_at, buffers_at, all_within, total_len, gathered};
 
-use byteorder::{ByteOrder, LittleEndian};
+use linear_memory::Memory;
 use std::alloc::{AllocError, Global};
 use wx_types::Bytes;
 
 /// The number in the four bytes at an address, the lowest byte first.
-#[tactic(auto, unfolding(crate::specs::Buffers::word_at))]
-fn word_at(memory: &[u8], at: usize) -> usize
-    requires { at + 4 ≤ length memory.now }
-    ensures value { result ≡ word_at memory.now at }
+fn word_at(memory: &Memory, at: u64) -> u64
+    requires { at + 4 ≤ length memory.now.bytes }
+    ensures value { result ≡ word_at memory.now.bytes at }
     ensures fits { result < 2 ^ 32 }
 {
-    LittleEndian::read_u32(&memory[at..at + 4]) as usize
+    match memory.load(at, 4) {
+        Ok(word) => word,
+        Err(_) => unreachable!(),
+    }
 }
 
 /// How many bytes the `n` buffers of the list at an address have in sum, or `None` where one of them
 /// passes the memory.
-pub fn total_len(memory: &[u8], list: usize, n: usize) -> Option<usize>
-    requires list_within { list + 8 * n ≤ length memory.now }
-    requires memory_len { length memory.now ≤ 16777216 }
-    ensures { MatchOption result (all_within memory.now (buffers_at memory.now list n) ≡ false) (λ t. (all_within memory.now (buffers_at memory.now list n) ≡ true) × (t ≡ total_len (buffers_at memory.now list n))) }
+pub fn total_len(memory: &Memory, list: u32, n: u32) -> Option<u64>
+    requires { list + 8 * n ≤ length memory.now.bytes }
+    ensures { MatchOption result (all_within memory.now.bytes (buffers_at memory.now.bytes list n) ≡ false) (λ t. (all_within memory.now.bytes (buffers_at memory.now.bytes list n) ≡ true) × (t ≡ total_len (buffers_at memory.now.bytes list n))) }
 {
     let mut total = 0;
     for i in 0..n {
-        let entry = list + 8 * i;
+        let entry = list as u64 + 8 * i as u64;
         let address = word_at(memory, entry);
         let len = word_at(memory, entry + 4);
-        if memory.len() < address + len {
+        if !memory.holds(address, len) {
             return None;
         }
         total += len;
@@ -40,21 +41,26 @@ pub fn total_len(memory: &[u8], list: usize, n: usize) -> Option<usize>
 /// `total` of them.
 pub fn gathered(
     alloc: Global,
-    memory: &[u8],
-    list: usize,
-    n: usize,
+    memory: &Memory,
+    list: u32,
+    n: u32,
     total: usize,
 ) -> Result<Bytes, AllocError>
-    requires list_within { list + 8 * n ≤ length memory.now }
-    requires buffers_within { all_within memory.now (buffers_at memory.now list n) ≡ true }
-    ensures { IfOk result (λ b. b ≡ gathered memory.now (buffers_at memory.now list n)) }
+    requires list_within { list + 8 * n ≤ length memory.now.bytes }
+    requires buffers_within { all_within memory.now.bytes (buffers_at memory.now.bytes list n) ≡ true }
+    ensures { IfOk result (λ b. b ≡ gathered memory.now.bytes (buffers_at memory.now.bytes list n)) }
 {
     let mut bytes = Vec::with_capacity(alloc, total)?;
     for i in 0..n {
-        let entry = list + 8 * i;
+        let entry = list as u64 + 8 * i as u64;
         let address = word_at(memory, entry);
         let len = word_at(memory, entry + 4);
-        bytes.extend_from_slice(&memory[address..address + len])?;
+        if memory
+            .append_bytes(address as u32, len as u32, &mut bytes)
+            .is_err()
+        {
+            return Err(AllocError);
+        }
     }
     Ok(Bytes::from_vec(bytes))
 }

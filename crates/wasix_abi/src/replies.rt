@@ -16,10 +16,7 @@ pub fn apply(memory: &mut Memory, request: &Request, errno: u16, bytes: &Bytes)
     ensures len { length memory.new.bytes ≡ length memory.old.bytes }
 {
     if request.call == FD_WRITE && errno == 0 {
-        let count = bytes.len() as u32;
-        let end = memory.as_slice().len() as u64;
-        prove!(request.words[3] + 4 <= end);
-        let written = memory.write_bytes(request.words[3] as u32, &count.to_le_bytes());
+        let written = memory.store(request.words[3], 4, bytes.len() as u64);
         prove!(written.is_ok());
     }
 }

@@ -13,10 +13,10 @@ use wx_types::{Bytes, Errno, Request};
 pub const FD_WRITE: u16 = 17;
 
 /// The most buffers of a list.
-const MOST_BUFFERS: usize = 1024;
+const MOST_BUFFERS: u32 = 1024;
 
 /// The most bytes of one read or write.
-const MOST_BYTES: usize = 16_777_216;
+const MOST_BYTES: u64 = 16_777_216;
 
 /// The arguments in their order and zeros behind them.
 fn nine_words(arguments: &[u32]) -> [u64; 9]
@@ -33,17 +33,15 @@ fn nine_words(arguments: &[u32]) -> [u64; 9]
 /// How many bytes a write of the `n` buffers that are listed at an address has, or why the process
 /// refuses it.
 #[tactic(auto, unfolding(crate::specs::Requests::list_refusal))]
-fn write_len(memory: &[u8], list: u32, n: u32, count: u32) -> Result<usize, Errno>
-    requires { length memory.now ≤ 16777216 }
-    ensures len { IfOk result (λ t. t ≡ total_len (buffers_at memory.now list n)) }
-    ensures good { IfOk result (λ _. list_refusal memory.now list n count ≡ 0) }
-    ensures within { IfOk result (λ _. list + 8 * n ≤ length memory.now) }
-    ensures buffers_within { IfOk result (λ _. all_within memory.now (buffers_at memory.now list n) ≡ true) }
-    ensures refused { IfErr result (λ e. list_refusal memory.now list n count ≡ errno_number e) }
+fn write_len(memory: &Memory, list: u32, n: u32, count: u32) -> Result<u64, Errno>
+    ensures len { IfOk result (λ t. t ≡ total_len (buffers_at memory.now.bytes list n)) }
+    ensures good { IfOk result (λ _. list_refusal memory.now.bytes list n count ≡ 0) }
+    ensures within { IfOk result (λ _. list + 8 * n ≤ length memory.now.bytes) }
+    ensures buffers_within { IfOk result (λ _. all_within memory.now.bytes (buffers_at memory.now.bytes list n) ≡ true) }
+    ensures refused { IfErr result (λ e. list_refusal memory.now.bytes list n count ≡ errno_number e) }
     ensures refused_more { IfErr result (λ e. 0 < errno_number e) }
 {
-    let (list, n, count) = (list as usize, n as usize, count as usize);
-    if memory.len() < list + 8 * n || memory.len() < count + 4 {
+    if !memory.holds(list as u64, 8 * n as u64) || !memory.holds(count as u64, 4) {
         return Err(Errno::Fault);
     }
     let Some(total) = total_len(memory, list, n) else {
@@ -63,11 +61,10 @@ fn write_request(alloc: Global, memory: &Memory, arguments: &[u32]) -> Result<Re
 {
     let words = nine_words(arguments);
     let (list, n, count) = (arguments[1], arguments[2], arguments[3]);
-    let memory = memory.as_slice();
     let (refused, one) = match write_len(memory, list, n, count) {
         Ok(total) => (
             Errno::Success,
-            gathered(alloc, memory, list as usize, n as usize, total)?,
+            gathered(alloc, memory, list, n, total as usize)?,
         ),
         Err(errno) => (errno, Bytes::empty(alloc)),
     };

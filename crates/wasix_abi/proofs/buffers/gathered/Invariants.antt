@@ -5,6 +5,6 @@ use Rattle.wasix_abi.proofs.buffers.gathered.Given as goal
 
 abbrev pub invariant-loop-i : goal.invariant-loop-i
 invariant-loop-i l = record {
-  within : all_within l.memory (left_from l.memory l.list l.n l.i) ≡ true;
-  joined : l.bytes.items ++ gathered l.memory (left_from l.memory l.list l.n l.i) ≡ gathered l.memory (buffers_at l.memory l.list l.n);
+  within : all_within l.memory.bytes (left_from l.memory.bytes l.list l.n l.i) ≡ true;
+  joined : l.bytes.items ++ gathered l.memory.bytes (left_from l.memory.bytes l.list l.n l.i) ≡ gathered l.memory.bytes (buffers_at l.memory.bytes l.list l.n);
 }

@@ -1,0 +1,6 @@
+pub mod Answers
+pub mod Files
+pub mod FileTree
+pub mod Listings
+pub mod Names
+pub mod Walk

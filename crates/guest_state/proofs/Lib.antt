@@ -1,0 +1,3 @@
+pub mod FitsLemmas
+pub mod HeightLemmas
+pub mod SnapshotLemmas

@@ -1,0 +1,55 @@
+-- Finite maps, and the entries of the maps that keep them.
+use Rattle.std.proofs.Common.{◌≡◌, cond, List, [], ◌∷◌, Some, None, Ordering, refl, sym, ap, ◌∙◌, length, arith}
+use Rattle.std.specs.BTreeMap.{is_at}
+use Rattle.std.specs.Cmp.{IsTotalOrder, eq_by_cmp_equiv}
+use Rattle.std.specs.FinMap.{find, put, get, insert, remove, empty, len, entries, from_entries, get-from_entries, get-insert, get-remove, entries-insert, len-entries, len-empty, same_map, IsAntisymmetric}
+use Rattle.std.specs.FinMap.Entries.{by_order}
+use Rattle.std.specs.List.Sorted.{IsStrictlySortedBy}
+use Rattle.std.specs.Map.{lookup, keys_of}
+
+module _ {K X : Type 0} {R : K → K → Ordering} (total : IsTotalOrder R) where
+  find_entry : (es : List (K × X)) (q : K) → find R q es ≡ lookup (is_at (R q)) es
+  find_entry [] q = refl
+  find_entry (e ∷ es) q = ap (cond (is_at (R q) e.0) (Some e.1)) (find_entry es q)
+
+  -- what the map of the entries has at a key
+  pub get_entry : (es : List (K × X)) (q : K) → get (from_entries {R = R} es) q ≡ lookup (is_at (R q)) es
+  get_entry es q = get-from_entries total es q ∙ find_entry es q
+
+  module _ (exact : IsAntisymmetric R) where
+    -- entries that have v at k, and else what they had, make the map with v at k
+    pub inserted : (es fs : List (K × X)) (k : K) (v : X) → ((q : K) → lookup (is_at (R q)) fs ≡ cond (is_at (R k) q) (Some v) (lookup (is_at (R q)) es)) → from_entries {R = R} fs ≡ insert (from_entries es) k v
+    inserted es fs k v h = same_map total exact _ _ (λ q.
+        get_entry fs q ∙ h q ∙ ap (λ b. cond b (Some v) (lookup (is_at (R q)) es)) ((eq_by_cmp_equiv total).symm k q)
+        ∙ sym (get-insert total (from_entries es) k v q ∙ ap (cond (is_at (R q) k) (Some v)) (get_entry es q)))
+
+    -- entries that have nothing at k, and else what they had, make the map without k
+    pub taken_out : (es fs : List (K × X)) (k : K) → ((q : K) → lookup (is_at (R q)) fs ≡ cond (is_at (R k) q) None (lookup (is_at (R q)) es)) → from_entries {R = R} fs ≡ remove (from_entries es) k
+    taken_out es fs k h = same_map total exact _ _ (λ q.
+        get_entry fs q ∙ h q ∙ ap (λ b. cond b None (lookup (is_at (R q)) es)) ((eq_by_cmp_equiv total).symm k q)
+        ∙ sym (get-remove total (from_entries es) k q ∙ ap (cond (is_at (R q) k) None) (get_entry es q)))
+
+no_entries : {A : Type 0} (es : List A) → length es ≡ 0 → es ≡ []
+no_entries [] h = refl
+no_entries (e ∷ es) h = absurd (omega (arith, h))
+
+module _ {K X : Type 0} {R : K → K → Ordering} (total : IsTotalOrder R) where
+  put_first : (e : K × X) (es : List (K × X)) → IsStrictlySortedBy R (keys_of (e ∷ es)) → put R e.0 e.1 es ≡ e ∷ es
+  unfolding IsStrictlySortedBy
+  put_first e [] h = refl
+  put_first e (f ∷ fs) h = ap (λ r. by_order r (e ∷ f ∷ fs) ((f.0, e.1) ∷ fs) (f ∷ put R e.0 e.1 fs)) h.0.0
+
+  tail_sorted : (e : K × X) (es : List (K × X)) → IsStrictlySortedBy R (keys_of (e ∷ es)) → IsStrictlySortedBy R (keys_of es)
+  unfolding IsStrictlySortedBy
+  tail_sorted e es h = h.1
+
+  -- a map's entries are those that it was made from, where they are in order
+  pub entries_of_sorted : (es : List (K × X)) → IsStrictlySortedBy R (keys_of es) → entries (from_entries {R = R} es) ≡ es
+  entries_of_sorted [] h = no_entries _ (sym (len-entries empty) ∙ len-empty R X)
+  entries_of_sorted (e ∷ es) h =
+      entries-insert total (from_entries es) e.0 e.1
+      ∙ ap (put R e.0 e.1) (entries_of_sorted es (tail_sorted e es h))
+      ∙ put_first e es h
+
+  pub len_of_sorted : (es : List (K × X)) → IsStrictlySortedBy R (keys_of es) → len (from_entries {R = R} es) ≡ length es
+  len_of_sorted es h = len-entries (from_entries es) ∙ ap length (entries_of_sorted es h)

@@ -1,0 +1,15 @@
+use Rattle.std.proofs.Common.{sym, ap, ◌∙◌}
+use Rattle.std.specs.Cmp.Lexicographic.{nat_list_cmp_total}
+use Rattle.std.specs.FinMap.{entries}
+use Rattle.tree_nodes.specs.Names.{name_among}
+use Rattle.tree_nodes.proofs.MapLemmas.{entries_of_sorted}
+use Rattle.tree_nodes.proofs.names.Names.name_of.Goals as goal
+
+pub loop-name-init : goal.loop-name-init
+loop-name-init c = (
+  ap (λ all. name_among all c.args.node) (c.into_iter-name-iterator.ensures.into_iter_gives.0
+      ∙ sym (entries_of_sorted nat_list_cmp_total c.self.inside.map.entries c.len.ensures.ordered)
+      ∙ ap entries c.self.view_is),
+  tt,
+  tt,
+)

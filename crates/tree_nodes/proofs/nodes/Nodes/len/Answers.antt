@@ -1,0 +1,8 @@
+use Rattle.std.proofs.Common.{sym, ap, ◌∙◌}
+use Rattle.std.specs.FinMap.{len}
+use Rattle.std.specs.Cmp.{nat_cmp_total}
+use Rattle.tree_nodes.proofs.MapLemmas.{len_of_sorted}
+use Rattle.tree_nodes.proofs.nodes.Nodes.len.Goals as goal
+
+pub returns : goal.returns
+returns c = c.len.ensures.len ∙ sym (len_of_sorted nat_cmp_total c.self.inside.map.entries c.len.ensures.ordered) ∙ ap len c.self.view_is

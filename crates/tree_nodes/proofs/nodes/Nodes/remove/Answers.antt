@@ -1,0 +1,24 @@
+use Rattle.std.proofs.Common.{ap, ◌∙◌, arith}
+use Rattle.std.specs.BTreeMap.{is_at}
+use Rattle.std.specs.Ordering.{nat_cmp}
+use Rattle.std.specs.FinMap.{remove}
+use Rattle.std.specs.Cmp.{nat_cmp_total}
+use Rattle.std.specs.FinMap.{nat_cmp-IsAntisymmetric}
+use Rattle.tree_nodes.specs.Nodes.{sizes, size_found}
+use Rattle.tree_nodes.proofs.MapLemmas.{taken_out}
+use Rattle.tree_nodes.proofs.NodeLemmas.{sizes_removed}
+use Rattle.tree_nodes.proofs.nodes.Nodes.remove.Goals as goal
+
+pub overflow_sub-self : goal.overflow_sub-self
+overflow_sub-self c = omega (arith, c.size_found.ensures, ap size_found c.remove-old.ensures.value, sizes_removed (is_at (nat_cmp c.args.number)) c.self.inside.map.entries, c.self.invariant.0)
+
+pub invariant_of-self : goal.invariant_of-self
+invariant_of-self c = (
+  omega (arith, c.size_found.ensures, ap size_found c.remove-old.ensures.value, ap sizes c.remove-old.ensures.entries, sizes_removed (is_at (nat_cmp c.args.number)) c.self.inside.map.entries, c.self.invariant.0),
+  omega (arith, c.self.invariant.1),
+)
+
+pub returns : goal.returns
+returns c =
+    taken_out nat_cmp_total nat_cmp-IsAntisymmetric c.self.inside.map.entries c.remove-old.new.self.entries c.args.number c.remove-old.ensures.updates.0
+    ∙ ap (λ nodes. remove nodes c.args.number) c.self.view_is
