@@ -2,7 +2,7 @@
 use Rattle.std.proofs.Common.{◌≡◌, ℕ, zero, suc, ◌^◌, ◌<◌, List, [], ◌∷◌, ◌++◌, length, Result, Ok, Err, refl, sym, ap, subst, ◌∙◌, append_assoc}
 use Rattle.std.specs.Int.{w16, w32}
 use Rattle.byte_cursor.specs.declared.leb.CursorFault.{CursorFault}
-use Rattle.byte_cursor.specs.Reading.{and_then}
+use Rattle.byte_cursor.specs.ReadNumbers.{and_then}
 use Rattle.boot_image.specs.Entries.{Entry, Content, Directory, File, path_bytes, file_bytes, entry_bytes, Fits}
 use Rattle.boot_image.specs.Reading.{Next, Last, One, Other, sized_at, directory_at, file_at, next_at}
 use Rattle.boot_image.specs.Steps.{IsBytes}

@@ -6,7 +6,7 @@ use Rattle.std.proofs.lemmas.List.{take_at, drop_at, take-append-drop, length-ap
 use Rattle.std.proofs.lemmas.Nat.{le_bytes_2, le_bytes_4, from_le_bytes-to_le_bytes_2, from_le_bytes-to_le_bytes_4}
 use Rattle.byte_cursor.specs.declared.leb.CursorFault.{CursorFault}
 use Rattle.byte_cursor.specs.declared.leb.CursorFault.TheVariants.{End}
-use Rattle.byte_cursor.specs.Reading.{and_then, fixed_at, span_at}
+use Rattle.byte_cursor.specs.ReadNumbers.{and_then, fixed_at, span_at}
 use Rattle.boot_image.specs.Reading.{sized_at}
 use Rattle.boot_image.specs.Steps.{IsBytes}
 
