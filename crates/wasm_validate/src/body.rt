@@ -41,11 +41,7 @@ impl Context<'_> {
 }
 
 /// Begins a block, a loop or an if.
-fn begin(
-    blocks: &mut Blocks,
-    construct: Construct,
-    of: Option<ValType>,
-) -> Result<bool, AllocError>
+fn begin(blocks: &mut Blocks, construct: Construct, of: Option<ValType>) -> Result<bool, AllocError>
     ensures { IfOk result (λ fits. fitting fits blocks.new ≡ begun construct of blocks.old) }
 {
     match construct {
