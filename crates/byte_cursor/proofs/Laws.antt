@@ -6,7 +6,7 @@ use Rattle.std.proofs.lemmas.List.{append_cancel_right, take_all}
 use Rattle.byte_cursor.specs.declared.leb.CursorFault.{CursorFault}
 use Rattle.byte_cursor.specs.declared.leb.CursorFault.TheVariants.{End, TooLong}
 use Rattle.byte_cursor.specs.Integers.{Spells, BeginsWith, RunsOut, IsTooLong}
-use Rattle.byte_cursor.specs.Reading.{Gives, and_then, last_at, number_at}
+use Rattle.byte_cursor.specs.ReadNumbers.{Gives, and_then, last_at, number_at}
 use Rattle.std.specs.Prelude.{IfOk, ◌↔◌}
 
 -- which way a test went

@@ -1,7 +1,7 @@
 ghost use Rattle.std.specs.Prelude.{◌≡◌, ℕ, ℤ, ◌==◌, ◌↔◌, List, length, IfOk};
 ghost use Rattle.std.specs.Int.{w16, w32, w64};
 ghost use Rattle.byte_cursor.specs.Integers.{SpellsUnsigned, SpellsSigned, BeginsWith, RunsOut, IsTooLong, unsigned_last, signed_last};
-ghost use Rattle.byte_cursor.specs.Reading.{Gives, byte_at, unsigned_at, signed_at, fixed_at, span_at};
+ghost use Rattle.byte_cursor.specs.ReadNumbers.{Gives, byte_at, unsigned_at, signed_at, fixed_at, span_at};
 
 use crate::leb::{CursorFault, signed, unsigned};
 use byteorder::{ByteOrder, LittleEndian};
@@ -128,7 +128,7 @@ impl<'a> Cursor<'a> {
         self.signed_64()
     }
 
-    #[tactic(auto, unfolding(crate::specs::Reading::unsigned_at))]
+    #[tactic(auto, unfolding(crate::specs::ReadNumbers::unsigned_at))]
     fn unsigned(&mut self) -> Result<u32, CursorFault>
         ensures { Gives (λ n. n) result self.old self.new (unsigned_at 32 self.old) }
     {
@@ -137,7 +137,7 @@ impl<'a> Cursor<'a> {
         Ok(number)
     }
 
-    #[tactic(auto, unfolding(crate::specs::Reading::signed_at))]
+    #[tactic(auto, unfolding(crate::specs::ReadNumbers::signed_at))]
     fn signed_32(&mut self) -> Result<i32, CursorFault>
         ensures { Gives (λ n. n) result self.old self.new (signed_at 32 self.old) }
     {
@@ -146,7 +146,7 @@ impl<'a> Cursor<'a> {
         Ok(number as i32)
     }
 
-    #[tactic(auto, unfolding(crate::specs::Reading::signed_at))]
+    #[tactic(auto, unfolding(crate::specs::ReadNumbers::signed_at))]
     fn signed_64(&mut self) -> Result<i64, CursorFault>
         ensures { Gives (λ n. n) result self.old self.new (signed_at 64 self.old) }
     {

@@ -1,6 +1,6 @@
 ghost use Rattle.std.specs.Prelude.{◌≡◌, ℕ, ℤ, ◌+◌, ◌-◌, ◌*◌, ◌^◌, ◌<◌, ◌≤◌, ◌≤ℤ◌, ◌+ℤ◌, pos, List, ◌++◌, IfOk};
 ghost use Rattle.byte_cursor.specs.Integers.{IsWithin, SpellsUnsigned, SpellsSigned, unsigned_last, unsigned_joined, signed_last, signed_joined};
-ghost use Rattle.byte_cursor.specs.Reading.{ReadsAs, number_at};
+ghost use Rattle.byte_cursor.specs.ReadNumbers.{ReadsAs, number_at};
 
 /// Why an item could not be read. The cursor stays in front of the item.
 #[derive(Clone, Copy, Debug, PartialEq, Eq)]

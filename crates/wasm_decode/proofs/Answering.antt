@@ -7,7 +7,7 @@ use Rattle.wasm_decode.specs.declared.fault.ThinFault.TheVariants.{Malformed, No
 use Rattle.wasm_decode.specs.ThinModule.{ThinModule}
 use Rattle.wasm_decode.specs.ThinGrammar.{SpellsSections, SpellsThin, preamble}
 use Rattle.wasm_decode.specs.Answer.{Answers, UnlessMemory}
-use Rattle.wasm_decode.proofs.Fit.{one_by}
+use Rattle.wasm_decode.proofs.ConsistentParts.{one_by}
 
 -- what stands behind the preamble is one list
 behind : (bytes rest : List ℕ) → bytes ≡ preamble ++ rest → (m : ThinModule) → SpellsThin bytes m → SpellsSections rest m

@@ -21,7 +21,7 @@ use Rattle.wasm_decode.specs.Segment.{Segment}
 use Rattle.wasm_decode.specs.declared.thin.ThinInstr.TheVariants.{Const, Call, Drop}
 use Rattle.wasm_decode.specs.Grammar.{SpellsEach, SpellsBytes}
 use Rattle.wasm_decode.specs.ThinGrammar.{Export, SpellsI32s, SpellsFuncType, import_name, SpellsImport, kind_byte, SpellsExport, SpellsLimits, SpellsMemory, SpellsSegment, SpellsInstr, SpellsNoLocals, SpellsCode}
-use Rattle.wasm_decode.specs.Reading.{◌>>=◌, byte_at, u32_at, i32_at, after_byte, bytes_at, vector_at, i32s_at, func_type_at, import_of, import_at, kind_of, export_at, memory_at, segment_at, instr_of, expr_at, no_locals_at, rest_of, code_at}
+use Rattle.wasm_decode.specs.ThinReading.{◌>>=◌, byte_at, u32_at, i32_at, after_byte, bytes_at, vector_at, i32s_at, func_type_at, import_of, import_at, kind_of, export_at, memory_at, segment_at, instr_of, expr_at, no_locals_at, rest_of, code_at}
 use Rattle.wasm_decode.proofs.Readers.{some, some_is, bind_some, guard_some, IsReader, u32_reader, i32_reader, bytes_reader, byte_takes, byte_again, after_takes, after_again, vector_reader}
 
 and_true : (a b : Bool) → (a && b) ≡ true → (a ≡ true) × (b ≡ true)

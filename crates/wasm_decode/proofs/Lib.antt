@@ -1,10 +1,10 @@
 pub mod Loop
 pub mod Readers
 pub mod ItemReaders
-pub mod Whole
+pub mod AllSections
 pub mod Heights
 pub mod Distinct
-pub mod Fit
+pub mod ConsistentParts
 pub mod Answering
 pub mod SearchLemmas
 pub mod DecodeRows

@@ -4,7 +4,7 @@ use Rattle.std.proofs.lemmas.List.{append-nil}
 use Rattle.wasm_decode.specs.declared.fault.ThinFault.{ThinFault}
 use Rattle.wasm_decode.specs.declared.fault.ThinFault.TheVariants.{Malformed, NotYet, Memory}
 use Rattle.wasm_decode.specs.declared.thin.ThinInstr.{ThinInstr}
-use Rattle.wasm_decode.specs.Reading.{◌>>=◌, Fails, each_at, rest_of, byte_at, after_byte, instr_of, expr_at}
+use Rattle.wasm_decode.specs.ThinReading.{◌>>=◌, Fails, each_at, rest_of, byte_at, after_byte, instr_of, expr_at}
 
 -- what was read before, and what is still read
 abbrev pub with_front : {A : Type 0} → List A → Option (List A × List ℕ) → Option (List A × List ℕ)

@@ -6,10 +6,10 @@ use Rattle.std.proofs.lemmas.List.{append-nil, nil_from_length, take_at, drop_at
 use Rattle.byte_cursor.specs.declared.leb.CursorFault.{CursorFault}
 use Rattle.byte_cursor.specs.declared.leb.CursorFault.TheVariants.{End}
 use Rattle.byte_cursor.specs.Integers.{SpellsUnsigned, SpellsSigned, BeginsWith, unsigned_last, unsigned_joined, signed_last, signed_joined}
-use Rattle.byte_cursor.specs.Reading.{unsigned_at, signed_at}
+use Rattle.byte_cursor.specs.ReadNumbers.{unsigned_at, signed_at}
 use Rattle.byte_cursor.proofs.Laws.{chosen, number_takes, number_again}
 use Rattle.wasm_decode.specs.Grammar.{SpellsEach, SpellsVector, SpellsOne, SpellsBytes, SpellsSized, SpellsSection, SpellsOptional}
-use Rattle.wasm_decode.specs.Reading.{◌>>=◌, read_of, byte_at, span_at, u32_at, i32_at, after_byte, bytes_at, each_at, vector_at, one_at, nothing_left, all_at, sized_at, content_at, section_at, begins_with, optional_at}
+use Rattle.wasm_decode.specs.ThinReading.{◌>>=◌, read_of, byte_at, span_at, u32_at, i32_at, after_byte, bytes_at, each_at, vector_at, one_at, nothing_left, all_at, sized_at, content_at, section_at, begins_with, optional_at}
 
 abbrev pub some : {A : Type 0} → A → Option A
 some x = Some x

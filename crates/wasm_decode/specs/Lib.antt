@@ -5,7 +5,7 @@ pub mod Decodes
 pub mod Floats
 pub mod Grammar
 pub mod Nesting
-pub mod Reading
+pub mod ThinReading
 pub mod Segment
 pub mod Judged
 pub mod Search

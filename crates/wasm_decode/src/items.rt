@@ -1,7 +1,7 @@
 //! The items of a thin module, each read from the front of a cursor.
 
 ghost use Rattle.std.specs.Prelude.{◌≡◌, ℕ};
-ghost use Rattle.wasm_decode.specs.Reading.{Gives, GivesAll, i32s_at, func_type_at, import_of, import_at, export_at, kind_of, memory_at, segment_at, instr_of, expr_at, no_locals_at, code_at, vector_at, each_at, all_at, one_at, sized_at, u32_at};
+ghost use Rattle.wasm_decode.specs.ThinReading.{Gives, GivesAll, i32s_at, func_type_at, import_of, import_at, export_at, kind_of, memory_at, segment_at, instr_of, expr_at, no_locals_at, code_at, vector_at, each_at, all_at, one_at, sized_at, u32_at};
 ghost use Rattle.wasm_decode.specs.Views.{export_view};
 ghost use Rattle.std.specs.List.{list_all};
 ghost use Rattle.std.specs.Str.{is_utf8};
@@ -82,7 +82,7 @@ fn is_text(name: &[u8]) -> bool
 }
 
 /// How many value types a vector of them has, each of them i32.
-#[tactic(auto, unfolding(crate::specs::Reading::i32s_at))]
+#[tactic(auto, unfolding(crate::specs::ThinReading::i32s_at))]
 fn i32s(cursor: &mut Cursor) -> Result<usize, ThinFault>
     ensures { Gives (λ n. n) result cursor.new (i32s_at cursor.old) }
 {
@@ -94,7 +94,7 @@ fn i32s(cursor: &mut Cursor) -> Result<usize, ThinFault>
     }
 }
 
-#[tactic(auto, unfolding(crate::specs::Reading::func_type_at))]
+#[tactic(auto, unfolding(crate::specs::ThinReading::func_type_at))]
 pub fn read_func_type(cursor: &mut Cursor) -> Result<FuncType, ThinFault>
     ensures { Gives (λ t. t) result cursor.new (func_type_at cursor.old) }
 {
@@ -105,7 +105,7 @@ pub fn read_func_type(cursor: &mut Cursor) -> Result<FuncType, ThinFault>
 }
 
 /// The function that is imported under a name.
-#[tactic(auto, unfolding(crate::specs::Reading::import_of))]
+#[tactic(auto, unfolding(crate::specs::ThinReading::import_of))]
 fn import_named(name: &[u8]) -> Result<ThinImport, ThinFault>
     ensures { GivesAll (λ i. i) result (import_of name.now) }
 {
@@ -118,7 +118,7 @@ fn import_named(name: &[u8]) -> Result<ThinImport, ThinFault>
     }
 }
 
-#[tactic(auto, unfolding(crate::specs::Reading::import_at))]
+#[tactic(auto, unfolding(crate::specs::ThinReading::import_at))]
 pub fn read_import(cursor: &mut Cursor) -> Result<Import, ThinFault>
     ensures { Gives (λ i. i) result cursor.new (import_at cursor.old) }
 {
@@ -132,7 +132,7 @@ pub fn read_import(cursor: &mut Cursor) -> Result<Import, ThinFault>
     Ok(Import { what, of })
 }
 
-#[tactic(auto, unfolding(crate::specs::Reading::kind_of))]
+#[tactic(auto, unfolding(crate::specs::ThinReading::kind_of))]
 fn export_kind(byte: u8) -> Result<ExportKind, ThinFault>
     ensures { GivesAll (λ k. k) result (kind_of byte) }
 {
@@ -143,7 +143,7 @@ fn export_kind(byte: u8) -> Result<ExportKind, ThinFault>
     }
 }
 
-#[tactic(auto, unfolding(crate::specs::Reading::export_at))]
+#[tactic(auto, unfolding(crate::specs::ThinReading::export_at))]
 pub fn read_export<'a>(cursor: &mut Cursor<'a>) -> Result<Export<'a>, ThinFault>
     ensures { Gives export_view result cursor.new (export_at cursor.old) }
 {
@@ -157,7 +157,7 @@ pub fn read_export<'a>(cursor: &mut Cursor<'a>) -> Result<Export<'a>, ThinFault>
     Ok(Export { name, kind, index })
 }
 
-#[tactic(auto, unfolding(crate::specs::Reading::memory_at))]
+#[tactic(auto, unfolding(crate::specs::ThinReading::memory_at))]
 pub fn read_memory(cursor: &mut Cursor) -> Result<ThinMemory, ThinFault>
     ensures { Gives (λ m. m) result cursor.new (memory_at cursor.old) }
 {
@@ -176,7 +176,7 @@ pub fn read_memory(cursor: &mut Cursor) -> Result<ThinMemory, ThinFault>
     }
 }
 
-#[tactic(auto, unfolding(crate::specs::Reading::segment_at))]
+#[tactic(auto, unfolding(crate::specs::ThinReading::segment_at))]
 pub fn read_segment(alloc: Global, cursor: &mut Cursor) -> Result<ThinSegment, ThinFault>
     ensures { Gives (λ s. s) result cursor.new (segment_at cursor.old) }
 {
@@ -191,7 +191,7 @@ pub fn read_segment(alloc: Global, cursor: &mut Cursor) -> Result<ThinSegment, T
 }
 
 /// The instruction behind its opcode.
-#[tactic(auto, unfolding(crate::specs::Reading::instr_of))]
+#[tactic(auto, unfolding(crate::specs::ThinReading::instr_of))]
 pub fn instruction(opcode: u8, cursor: &mut Cursor) -> Result<ThinInstr, ThinFault>
     ensures { Gives (λ i. i) result cursor.new (instr_of opcode cursor.old) }
 {
@@ -210,7 +210,7 @@ pub fn instruction(opcode: u8, cursor: &mut Cursor) -> Result<ThinInstr, ThinFau
 }
 
 /// A group of no locals.
-#[tactic(auto, unfolding(crate::specs::Reading::no_locals_at))]
+#[tactic(auto, unfolding(crate::specs::ThinReading::no_locals_at))]
 pub fn no_locals(cursor: &mut Cursor) -> Result<(), ThinFault>
     ensures { Gives (λ _. tt) result cursor.new (no_locals_at cursor.old) }
 {

@@ -1,7 +1,7 @@
 //! The sections of a thin module, read from a cursor behind the preamble.
 
 ghost use Rattle.std.specs.Prelude.{◌≡◌, ℕ, map};
-ghost use Rattle.wasm_decode.specs.Reading.{Gives, GivesRest, func_type_at, import_at, export_at, memory_at, segment_at, no_locals_at, expr_at, code_at, vector_at, each_at, one_at, sized_at, section_at, optional_at, rest_of, begins_with, u32_at, parts_at};
+ghost use Rattle.wasm_decode.specs.ThinReading.{Gives, GivesRest, func_type_at, import_at, export_at, memory_at, segment_at, no_locals_at, expr_at, code_at, vector_at, each_at, one_at, sized_at, section_at, optional_at, rest_of, begins_with, u32_at, parts_at};
 ghost use Rattle.wasm_decode.specs.Views.{export_views, parts_view};
 
 use crate::fault::ThinFault;
@@ -134,7 +134,7 @@ fn expression(alloc: Global, cursor: &mut Cursor) -> Result<Vec<ThinInstr>, Thin
     Ok(body)
 }
 
-#[tactic(auto, unfolding(crate::specs::Reading::section_at, crate::specs::Reading::all_at, crate::specs::Reading::vector_at))]
+#[tactic(auto, unfolding(crate::specs::ThinReading::section_at, crate::specs::ThinReading::all_at, crate::specs::ThinReading::vector_at))]
 fn type_section(alloc: Global, cursor: &mut Cursor) -> Result<Vec<FuncType>, ThinFault>
     ensures { Gives (λ v. v.items) result cursor.new (section_at 1 (vector_at func_type_at) cursor.old) }
 {
@@ -154,7 +154,7 @@ fn has_section(cursor: &Cursor, id: u8) -> bool
     }
 }
 
-#[tactic(auto, unfolding(crate::specs::Reading::section_at, crate::specs::Reading::all_at, crate::specs::Reading::vector_at))]
+#[tactic(auto, unfolding(crate::specs::ThinReading::section_at, crate::specs::ThinReading::all_at, crate::specs::ThinReading::vector_at))]
 fn import_section(alloc: Global, cursor: &mut Cursor) -> Result<Vec<Import>, ThinFault>
     ensures { Gives (λ v. v.items) result cursor.new (section_at 2 (vector_at import_at) cursor.old) }
 {
@@ -165,7 +165,7 @@ fn import_section(alloc: Global, cursor: &mut Cursor) -> Result<Vec<Import>, Thi
     Ok(imports)
 }
 
-#[tactic(auto, unfolding(crate::specs::Reading::optional_at))]
+#[tactic(auto, unfolding(crate::specs::ThinReading::optional_at))]
 fn imports(alloc: Global, cursor: &mut Cursor) -> Result<Vec<Import>, ThinFault>
     ensures { Gives (λ v. v.items) result cursor.new (optional_at 2 import_at cursor.old) }
 {
@@ -176,7 +176,7 @@ fn imports(alloc: Global, cursor: &mut Cursor) -> Result<Vec<Import>, ThinFault>
     }
 }
 
-#[tactic(auto, unfolding(crate::specs::Reading::section_at, crate::specs::Reading::all_at, crate::specs::Reading::one_at))]
+#[tactic(auto, unfolding(crate::specs::ThinReading::section_at, crate::specs::ThinReading::all_at, crate::specs::ThinReading::one_at))]
 fn function_section(cursor: &mut Cursor) -> Result<u32, ThinFault>
     ensures { Gives (λ n. n) result cursor.new (section_at 3 (one_at u32_at) cursor.old) }
 {
@@ -190,7 +190,7 @@ fn function_section(cursor: &mut Cursor) -> Result<u32, ThinFault>
     Ok(function)
 }
 
-#[tactic(auto, unfolding(crate::specs::Reading::section_at, crate::specs::Reading::all_at, crate::specs::Reading::vector_at))]
+#[tactic(auto, unfolding(crate::specs::ThinReading::section_at, crate::specs::ThinReading::all_at, crate::specs::ThinReading::vector_at))]
 fn export_section<'a>(alloc: Global, cursor: &mut Cursor<'a>) -> Result<Vec<Export<'a>>, ThinFault>
     ensures { Gives (λ v. export_views v.items) result cursor.new (section_at 7 (vector_at export_at) cursor.old) }
 {
@@ -201,7 +201,7 @@ fn export_section<'a>(alloc: Global, cursor: &mut Cursor<'a>) -> Result<Vec<Expo
     Ok(exports)
 }
 
-#[tactic(auto, unfolding(crate::specs::Reading::section_at, crate::specs::Reading::all_at, crate::specs::Reading::vector_at))]
+#[tactic(auto, unfolding(crate::specs::ThinReading::section_at, crate::specs::ThinReading::all_at, crate::specs::ThinReading::vector_at))]
 fn memory_section(alloc: Global, cursor: &mut Cursor) -> Result<Vec<ThinMemory>, ThinFault>
     ensures { Gives (λ v. v.items) result cursor.new (section_at 5 (vector_at memory_at) cursor.old) }
 {
@@ -212,7 +212,7 @@ fn memory_section(alloc: Global, cursor: &mut Cursor) -> Result<Vec<ThinMemory>,
     Ok(memories)
 }
 
-#[tactic(auto, unfolding(crate::specs::Reading::optional_at))]
+#[tactic(auto, unfolding(crate::specs::ThinReading::optional_at))]
 fn memories(alloc: Global, cursor: &mut Cursor) -> Result<Vec<ThinMemory>, ThinFault>
     ensures { Gives (λ v. v.items) result cursor.new (optional_at 5 memory_at cursor.old) }
 {
@@ -223,7 +223,7 @@ fn memories(alloc: Global, cursor: &mut Cursor) -> Result<Vec<ThinMemory>, ThinF
     }
 }
 
-#[tactic(auto, unfolding(crate::specs::Reading::section_at, crate::specs::Reading::all_at, crate::specs::Reading::vector_at))]
+#[tactic(auto, unfolding(crate::specs::ThinReading::section_at, crate::specs::ThinReading::all_at, crate::specs::ThinReading::vector_at))]
 fn data_section(alloc: Global, cursor: &mut Cursor) -> Result<Vec<ThinSegment>, ThinFault>
     ensures { Gives (λ v. v.items) result cursor.new (section_at 11 (vector_at segment_at) cursor.old) }
 {
@@ -234,7 +234,7 @@ fn data_section(alloc: Global, cursor: &mut Cursor) -> Result<Vec<ThinSegment>, 
     Ok(segments)
 }
 
-#[tactic(auto, unfolding(crate::specs::Reading::optional_at))]
+#[tactic(auto, unfolding(crate::specs::ThinReading::optional_at))]
 fn segments(alloc: Global, cursor: &mut Cursor) -> Result<Vec<ThinSegment>, ThinFault>
     ensures { Gives (λ v. v.items) result cursor.new (optional_at 11 segment_at cursor.old) }
 {
@@ -246,7 +246,7 @@ fn segments(alloc: Global, cursor: &mut Cursor) -> Result<Vec<ThinSegment>, Thin
 }
 
 /// A function's code, without locals.
-#[tactic(auto, unfolding(crate::specs::Reading::code_at, crate::specs::Reading::vector_at))]
+#[tactic(auto, unfolding(crate::specs::ThinReading::code_at, crate::specs::ThinReading::vector_at))]
 fn code(alloc: Global, cursor: &mut Cursor) -> Result<Vec<ThinInstr>, ThinFault>
     ensures { Gives (λ v. v.items) result cursor.new (code_at cursor.old) }
 {
@@ -255,7 +255,7 @@ fn code(alloc: Global, cursor: &mut Cursor) -> Result<Vec<ThinInstr>, ThinFault>
     expression(alloc, cursor)
 }
 
-#[tactic(auto, unfolding(crate::specs::Reading::sized_at, crate::specs::Reading::all_at))]
+#[tactic(auto, unfolding(crate::specs::ThinReading::sized_at, crate::specs::ThinReading::all_at))]
 fn sized_code(alloc: Global, cursor: &mut Cursor) -> Result<Vec<ThinInstr>, ThinFault>
     ensures { Gives (λ v. v.items) result cursor.new (sized_at code_at cursor.old) }
 {
@@ -265,7 +265,7 @@ fn sized_code(alloc: Global, cursor: &mut Cursor) -> Result<Vec<ThinInstr>, Thin
     Ok(body)
 }
 
-#[tactic(auto, unfolding(crate::specs::Reading::section_at, crate::specs::Reading::all_at, crate::specs::Reading::one_at))]
+#[tactic(auto, unfolding(crate::specs::ThinReading::section_at, crate::specs::ThinReading::all_at, crate::specs::ThinReading::one_at))]
 fn code_section(alloc: Global, cursor: &mut Cursor) -> Result<Vec<ThinInstr>, ThinFault>
     ensures { Gives (λ v. v.items) result cursor.new (section_at 10 (one_at (sized_at code_at)) cursor.old) }
 {
@@ -279,7 +279,7 @@ fn code_section(alloc: Global, cursor: &mut Cursor) -> Result<Vec<ThinInstr>, Th
 }
 
 /// The sections in their order.
-#[tactic(auto, unfolding(crate::specs::Reading::parts_at))]
+#[tactic(auto, unfolding(crate::specs::ThinReading::parts_at))]
 pub fn read_parts<'a>(alloc: Global, cursor: &mut Cursor<'a>) -> Result<Parts<'a>, ThinFault>
     ensures { Gives parts_view result cursor.new (parts_at cursor.old) }
 {

@@ -3,7 +3,7 @@
 ghost use Rattle.std.specs.Prelude.{◌≡◌, ◌≢◌, ◌≤◌, ◌++◌, ◌↔◌, ◌<◌, ℕ, List, IsTrue, IfOk, length, map, take, Result, Ok, Err, IfSome, IfNone, slice_get};
 ghost use Rattle.wasm_decode.specs.ThinModule.{ThinModule};
 ghost use Rattle.wasm_decode.specs.ThinGrammar.{SpellsSections, SpellsThin, preamble};
-ghost use Rattle.wasm_decode.specs.Reading.{GivesAll, all_at, parts_at};
+ghost use Rattle.wasm_decode.specs.ThinReading.{GivesAll, all_at, parts_at};
 ghost use Rattle.wasm_decode.specs.Answer.{Answers, UnlessMemory};
 ghost use Rattle.wasm_decode.specs.Views.{parts_view, PartsFit};
 
@@ -21,7 +21,7 @@ use std::alloc::{AllocError, Global};
 const PREAMBLE: [u8; 8] = [0x00, 0x61, 0x73, 0x6d, 0x01, 0x00, 0x00, 0x00];
 
 /// The parts that all the bytes spell.
-#[tactic(auto, unfolding(crate::specs::Reading::all_at))]
+#[tactic(auto, unfolding(crate::specs::ThinReading::all_at))]
 fn whole_parts<'a>(alloc: Global, bytes: &'a [u8]) -> Result<Parts<'a>, ThinFault>
     ensures { GivesAll parts_view result (all_at parts_at bytes.now) }
 {

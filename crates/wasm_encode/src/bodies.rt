@@ -6,8 +6,8 @@ ghost use Rattle.wasm_ast.specs.Walk.{event_of};
 ghost use Rattle.wasm_encode.specs.CanonEvents.{canon_event};
 
 use crate::instrs::write_plain;
-use crate::parts::{write_byte, write_pair};
 use crate::types::block_type_byte;
+use crate::vectors::{write_byte, write_pair};
 use std::alloc::{AllocError, Global};
 use wasm_ast::{BlockKind, Body, Construct, Event, Walk};
 

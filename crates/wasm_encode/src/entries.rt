@@ -3,8 +3,8 @@ ghost use Rattle.std.specs.Prelude.{◌≡◌, ◌++◌, OnOk};
 ghost use Rattle.wasm_ast.specs.Canon.{canon_import_kind, canon_import, canon_global, canon_export_kind, canon_export, canon_element, canon_segment, canon_group, canon_func, canon_code};
 
 use crate::bodies::write_expr;
-use crate::parts::{Write, write_byte, write_bytes, write_tagged, write_u32, write_vector};
 use crate::types::{val_type_byte, write_global_type, write_memory, write_table};
+use crate::vectors::{Write, write_byte, write_bytes, write_tagged, write_u32, write_vector};
 use std::alloc::{AllocError, Global};
 use wasm_ast::{
     Code, Element, Export, ExportKind, GlobalVar, Import, ImportKind, LocalGroup, Segment,

@@ -6,7 +6,7 @@ ghost use Rattle.wasm_ast.specs.CanonInstr.{canon_plain};
 ghost use Rattle.wasm_ast.specs.Shortest.{shortest_unsigned};
 
 use crate::numbers::write_signed;
-use crate::parts::{write_byte, write_pair, write_tagged, write_u32, write_vector};
+use crate::vectors::{write_byte, write_pair, write_tagged, write_u32, write_vector};
 use std::alloc::{AllocError, Global};
 use wasm_ast::{Access, Instr, MemArg};
 

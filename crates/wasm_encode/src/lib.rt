@@ -16,8 +16,8 @@ mod entries;
 mod instrs;
 mod modules;
 mod numbers;
-mod parts;
 mod types;
+mod vectors;
 
 pub use modules::encode;
 

@@ -4,8 +4,8 @@ ghost use Rattle.wasm_ast.specs.Shortest.{canon_vec};
 ghost use Rattle.wasm_ast.specs.Canon.{canon_table, canon_section, canon_list, canon_start, canon};
 
 use crate::numbers::write_unsigned;
-use crate::parts::{Write, write_byte, write_bytes, write_u32, write_vector};
 use crate::types::write_table;
+use crate::vectors::{Write, write_byte, write_bytes, write_u32, write_vector};
 use std::alloc::{AllocError, Global};
 use wasm_ast::{Limits, Module};
 use wx_types::Bytes;

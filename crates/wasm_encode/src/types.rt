@@ -4,7 +4,7 @@ ghost use Rattle.wasm_ast.specs.SpelledTypes.{valtype_byte};
 ghost use Rattle.wasm_ast.specs.CanonInstr.{block_type_byte};
 ghost use Rattle.wasm_ast.specs.Canon.{canon_val_type, canon_func_type, canon_memory, canon_table, canon_global_type};
 
-use crate::parts::{Write, write_byte, write_pair, write_tagged, write_u32, write_vector};
+use crate::vectors::{Write, write_byte, write_pair, write_tagged, write_u32, write_vector};
 use std::alloc::{AllocError, Global};
 use wasm_ast::{FuncType, Limits, ValType};
 

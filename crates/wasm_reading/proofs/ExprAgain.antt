@@ -15,8 +15,8 @@ use Rattle.wasm_ast.specs.SpelledInstr.{SpellsPlain, SpellsSequence, SpellsExpr}
 use Rattle.wasm_ast.specs.OpcodeTables.{opcode_at, SpellsBehind}
 use Rattle.wasm_ast.proofs.OpcodeLaws.{spelled_is_behind, plain_begins}
 use Rattle.wasm_reading.specs.declared.exprs.Shape.TheVariants as shape
-use Rattle.wasm_reading.specs.declared.exprs.Step.TheVariants.{Going, Whole}
-use Rattle.wasm_reading.specs.Reading.{and_then, IsExact}
+use Rattle.wasm_reading.specs.declared.exprs.Step.TheVariants.{Going, Complete}
+use Rattle.wasm_reading.specs.ReadValues.{and_then, IsExact}
 use Rattle.wasm_reading.specs.ReadExpr.{shape_of, behind_shape, step_at, goes_on, rest_at, expr_at}
 use Rattle.wasm_reading.proofs.TypeLaws.{blocktype_exact}
 use Rattle.wasm_reading.proofs.InstrLaws.{immediates_exact}
@@ -116,7 +116,7 @@ last_read : (s : Sequence) (back rest : List ℕ) → Behind 0x0B (λ c. c ≡ [
 last_read s [] rest h = absurd h
 last_read s (e ∷ back) rest h =
     let v : Built = record { opens = []; before = s } in
-    step_to v (e ∷ (back ++ rest)) (Whole s) (back ++ rest) (ap (λ x. behind_shape x (opcode_at e) v (back ++ rest)) (shape_end e h.0)) ∙ ap (λ b. Some (s, b ++ rest)) h.1
+    step_to v (e ∷ (back ++ rest)) (Complete s) (back ++ rest) (ap (λ x. behind_shape x (opcode_at e) v (back ++ rest)) (shape_end e h.0)) ∙ ap (λ b. Some (s, b ++ rest)) h.1
 
 pub expr_again : (front rest : List ℕ) (s : Sequence) → SpellsExpr front s → expr_at (front ++ rest) ≡ Some (s, rest)
 expr_again front rest s h =

@@ -19,12 +19,12 @@ use Rattle.wasm_ast.proofs.OpcodeLaws.{behind_is_spelled}
 use Rattle.wasm_reading.specs.declared.exprs.Shape.{Shape}
 use Rattle.wasm_reading.specs.declared.exprs.Shape.TheVariants as shape
 use Rattle.wasm_reading.specs.declared.exprs.Step.{Step}
-use Rattle.wasm_reading.specs.declared.exprs.Step.TheVariants.{Going, Whole}
-use Rattle.wasm_reading.specs.Reading.{and_then, mapped}
+use Rattle.wasm_reading.specs.declared.exprs.Step.TheVariants.{Going, Complete}
+use Rattle.wasm_reading.specs.ReadValues.{and_then, mapped}
 use Rattle.wasm_reading.specs.ReadTypes.{blocktype_at}
 use Rattle.wasm_reading.specs.ReadInstr.{immediates_at}
 use Rattle.wasm_reading.specs.ReadExpr.{shape_of, end_step, behind_shape, step_at, goes_on, steps_at, expr_at}
-use Rattle.wasm_reading.proofs.ReadingLaws.{some_is, read_first, chose_some}
+use Rattle.wasm_reading.proofs.ValueLaws.{some_is, read_first, chose_some}
 use Rattle.wasm_reading.proofs.TypeLaws.{blocktype_exact}
 use Rattle.wasm_reading.proofs.InstrLaws.{immediates_exact}
 use Rattle.wasm_reading.proofs.Sequences.{append-empty, append-append}

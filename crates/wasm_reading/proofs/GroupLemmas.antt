@@ -3,7 +3,7 @@ use Rattle.std.proofs.Common.{◌≡◌, ℕ, suc, ◌+◌, ◌-◌, ◌<◌, �
 use Rattle.wasm_ast.specs.declared.locals.LocalGroup.{LocalGroup}
 use Rattle.wasm_ast.specs.Locals.{total, joined, added}
 use Rattle.wasm_ast.proofs.LocalsLemmas.{total-joined}
-use Rattle.wasm_reading.specs.Reading.{and_then}
+use Rattle.wasm_reading.specs.ReadValues.{and_then}
 use Rattle.wasm_reading.specs.ReadModule.{group_at, groups_at}
 
 total-added : (gs : List LocalGroup) (g : LocalGroup) (b : Bool) → (g.count == 0) ≡ b → total (cond b gs (joined gs g)) ≡ total gs + g.count

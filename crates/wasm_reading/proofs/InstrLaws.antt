@@ -9,9 +9,9 @@ use Rattle.wasm_ast.specs.declared.opcode.AtomicOpcode.TheVariants as atomic
 use Rattle.wasm_ast.specs.Spelling.{Behind}
 use Rattle.wasm_ast.specs.Immediates.{Immediates, Nothing, Index, Labels, IndexAndZero, Argument, Zero, Signed32, Signed64, Raw, Never, Spells}
 use Rattle.wasm_ast.specs.OpcodeTables.{atomic_at, Plan, plan_of, atomic_plan_of, SpellsPlan, SpellsAtomic, SpellsBehind}
-use Rattle.wasm_reading.specs.Reading.{IsExact}
+use Rattle.wasm_reading.specs.ReadValues.{IsExact}
 use Rattle.wasm_reading.specs.ReadInstr.{nothing_at, zero_at, value_at, plan_at, atomic_immediates_at, atomic_instr_at, immediates_at}
-use Rattle.wasm_reading.proofs.ReadingLaws.{some_is, mapped_exact, pair_exact, behind_exact, u32_exact, i32_exact, i64_exact, vec_exact, floats_exact, exact_as}
+use Rattle.wasm_reading.proofs.ValueLaws.{some_is, mapped_exact, pair_exact, behind_exact, u32_exact, i32_exact, i64_exact, vec_exact, floats_exact, exact_as}
 
 nothing_exact : {X : Type 0} (x : X) → IsExact (λ bytes y. (bytes ≡ []) × (y ≡ x)) (nothing_at x)
 nothing_exact {X} x = record {

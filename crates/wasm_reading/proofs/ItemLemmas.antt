@@ -3,8 +3,8 @@ use Rattle.std.proofs.Common.{◌≡◌, ℕ, suc, ◌+◌, ◌<◌, List, [], �
 use Rattle.std.proofs.lemmas.List.{append-nil}
 use Rattle.wasm_reading.specs.declared.fault.ReadFault.{ReadFault}
 use Rattle.wasm_reading.specs.declared.fault.ReadFault.TheVariants.{Malformed, Memory}
-use Rattle.wasm_reading.specs.Given.{Fails}
-use Rattle.wasm_reading.specs.Reading.{and_then, each_at}
+use Rattle.wasm_reading.specs.ReadAnswers.{Fails}
+use Rattle.wasm_reading.specs.ReadValues.{and_then, each_at}
 
 -- these items in front of those that are read
 abbrev pub with_front : {X : Type 0} → List X → Option (List X × List ℕ) → Option (List X × List ℕ)

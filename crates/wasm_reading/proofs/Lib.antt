@@ -1,4 +1,4 @@
-pub mod ReadingLaws
+pub mod ValueLaws
 pub mod TypeLaws
 pub mod InstrLaws
 pub mod Sequences
@@ -6,7 +6,7 @@ pub mod Steps
 pub mod Shapes
 pub mod ExprTakes
 pub mod ExprAgain
-pub mod PartLaws
+pub mod EntryLaws
 pub mod ModuleLaws
 pub mod ItemLemmas
 pub mod GroupLemmas

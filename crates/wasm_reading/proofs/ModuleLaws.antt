@@ -4,11 +4,11 @@ use Rattle.std.specs.Option.{option_map, option_and_then}
 use Rattle.wasm_ast.specs.declared.module.Module.{Module}
 use Rattle.wasm_ast.specs.Spelling.{SpellsU32, SpellsEach, SpellsVec}
 use Rattle.wasm_ast.specs.SpelledModule.{Section, SpellsSection, IsCustom, InOrder, content_of, Holds, HoldsStart, preamble, SpellsModule}
-use Rattle.wasm_reading.specs.Reading.{and_then, u32_at, bytes_at, name_at, all_of, IsExact}
+use Rattle.wasm_reading.specs.ReadValues.{and_then, u32_at, bytes_at, name_at, all_of, IsExact}
 use Rattle.wasm_reading.specs.ReadModule.{with_section, placed, sections_at, all_held, held_at, start_held, both, fields_of, module_with, counted, module_of, preamble_at, body_at, module_at}
-use Rattle.wasm_reading.proofs.ReadingLaws.{chosen, chose_some, some_is, read_first, u32_exact, vec_exact, bytes_exact, name_exact, all_spelled, all_again}
+use Rattle.wasm_reading.proofs.ValueLaws.{chosen, chose_some, some_is, read_first, u32_exact, vec_exact, bytes_exact, name_exact, all_spelled, all_again}
 use Rattle.wasm_reading.proofs.TypeLaws.{functype_exact, memory_exact, table_exact}
-use Rattle.wasm_reading.proofs.PartLaws.{import_exact, global_exact, export_exact, element_exact, code_exact, segment_exact}
+use Rattle.wasm_reading.proofs.EntryLaws.{import_exact, global_exact, export_exact, element_exact, code_exact, segment_exact}
 
 map_some : {X Y : Type 0} (f : X → Y) (o : Option X) (y : Y) → option_map f o ≡ Some y → (x : X) × (o ≡ Some x) × (f x ≡ y)
 map_some f None y h = cc

@@ -3,9 +3,9 @@ use Rattle.std.proofs.Common.{◌≡◌, ℕ, zero, suc, ◌+◌, ◌<◌, ◌�
 use Rattle.std.proofs.lemmas.List.{append-nil}
 use Rattle.std.specs.Option.{option_map}
 use Rattle.wasm_ast.specs.SpelledModule.{Section}
-use Rattle.wasm_reading.specs.Reading.{and_then, next_at, bytes_at, name_at}
+use Rattle.wasm_reading.specs.ReadValues.{and_then, next_at, bytes_at, name_at}
 use Rattle.wasm_reading.specs.ReadModule.{with_section, placed, sections_at, preamble_at}
-use Rattle.wasm_reading.proofs.ReadingLaws.{some_is, bytes_exact}
+use Rattle.wasm_reading.proofs.ValueLaws.{some_is, bytes_exact}
 
 -- these sections in front of others
 abbrev with_parts : List Section → Option (List Section) → Option (List Section)
@@ -56,12 +56,12 @@ module _ (start : List ℕ) (parts : List Section) (least : ℕ) (now mid rest c
   pub split_shorter : length rest < length now
   split_shorter = let e = ap length (next_is now mid b first) in let l = rest_shorter mid content rest bytes in omega arith
 
-  record Left : Type 0 where
+  record Remaining : Type 0 where
     n : ℕ
     fits : length rest ≤ n
     is : sections_at s.left least now ≡ placed least b content (sections_at n least rest) (sections_at n (b + 1) rest)
 
-  left_at : (l : ℕ) → s.left ≡ l → Left
+  left_at : (l : ℕ) → s.left ≡ l → Remaining
   left_at zero e = absurd (let k = ap length (next_is now mid b first) in let f = s.fits in omega arith)
   left_at (suc n) e = record {
     n = n;

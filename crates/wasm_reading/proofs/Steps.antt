@@ -11,12 +11,12 @@ use Rattle.wasm_ast.specs.OpcodeTables.{opcode_at, atomic_at, atomic_plan_of, Sp
 use Rattle.wasm_reading.specs.declared.exprs.Shape.{Shape}
 use Rattle.wasm_reading.specs.declared.exprs.Shape.TheVariants as shape
 use Rattle.wasm_reading.specs.declared.exprs.Step.{Step}
-use Rattle.wasm_reading.specs.declared.exprs.Step.TheVariants.{Going, Whole}
-use Rattle.wasm_reading.specs.Reading.{and_then, mapped, IsExact}
+use Rattle.wasm_reading.specs.declared.exprs.Step.TheVariants.{Going, Complete}
+use Rattle.wasm_reading.specs.ReadValues.{and_then, mapped, IsExact}
 use Rattle.wasm_reading.specs.ReadTypes.{blocktype_at}
 use Rattle.wasm_reading.specs.ReadInstr.{immediates_at}
 use Rattle.wasm_reading.specs.ReadExpr.{shape_of, behind_shape, step_at, goes_on, steps_at, rest_at}
-use Rattle.wasm_reading.proofs.ReadingLaws.{some_is, read_first, chose_some}
+use Rattle.wasm_reading.proofs.ValueLaws.{some_is, read_first, chose_some}
 use Rattle.wasm_reading.proofs.InstrLaws.{immediates_exact}
 use Rattle.wasm_reading.proofs.TypeLaws.{blocktype_exact}
 
@@ -62,7 +62,7 @@ same_behind : (f g : Built → List ℕ → Option (Sequence × List ℕ)) (v : 
 same_behind f g v bytes h = same (step_at v bytes) refl where
   goes_same : (p : Step) (rest : List ℕ) → length rest < length bytes → goes_on f p rest ≡ goes_on g p rest
   goes_same (Going w) rest l = h w rest l
-  goes_same (Whole s) rest l = refl
+  goes_same (Complete s) rest l = refl
 
   same : (o : Option (Step × List ℕ)) → step_at v bytes ≡ o → and_then o (goes_on f) ≡ and_then o (goes_on g)
   same None e = refl

@@ -6,9 +6,9 @@ use Rattle.wasm_ast.specs.declared.types.ValType.TheVariants.{I32, I64, F32, F64
 use Rattle.wasm_ast.specs.declared.types.Limits.{Limits}
 use Rattle.wasm_ast.specs.Spelling.{Joined, Behind, SpellsU32}
 use Rattle.wasm_ast.specs.SpelledTypes.{valtype_byte, SpellsValType, SpellsBlockType, SpellsFuncType, LimitsForm, SpellsMemory, SpellsTable, SpellsGlobalType}
-use Rattle.wasm_reading.specs.Reading.{pair_at, u32_at, IsExact}
+use Rattle.wasm_reading.specs.ReadValues.{pair_at, u32_at, IsExact}
 use Rattle.wasm_reading.specs.ReadTypes.{valtype_of, valtype_at, blocktype_of, blocktype_at, functype_at, one_limit, two_limits, memory_at, unshared_at, table_at, flag_of, globaltype_at}
-use Rattle.wasm_reading.proofs.ReadingLaws.{chosen, chose_some, some_is, mapped_exact, pair_exact, behind_exact, u32_exact, vec_exact, byte_exact, exact_as, no_tag, tag_takes, tagged_takes, tag_again}
+use Rattle.wasm_reading.proofs.ValueLaws.{chosen, chose_some, some_is, mapped_exact, pair_exact, behind_exact, u32_exact, vec_exact, byte_exact, exact_as, no_tag, tag_takes, tagged_takes, tag_again}
 
 valtype_of_is : (b : ℕ) (x : ValType) → valtype_of b ≡ Some x → b ≡ valtype_byte x
 valtype_of_is b x h =

@@ -1,7 +1,7 @@
-pub mod Reading
+pub mod ReadValues
 pub mod ReadTypes
 pub mod ReadInstr
 pub mod ReadExpr
 pub mod ReadModule
-pub mod Given
+pub mod ReadAnswers
 pub mod Sections

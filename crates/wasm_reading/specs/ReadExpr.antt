@@ -10,8 +10,8 @@ use Rattle.wasm_ast.specs.OpcodeTables.{opcode_at}
 use Rattle.wasm_reading.specs.declared.exprs.Shape.{Shape}
 use Rattle.wasm_reading.specs.declared.exprs.Shape.TheVariants as shape
 use Rattle.wasm_reading.specs.declared.exprs.Step.{Step}
-use Rattle.wasm_reading.specs.declared.exprs.Step.TheVariants.{Going, Whole}
-use Rattle.wasm_reading.specs.Reading.{and_then, mapped}
+use Rattle.wasm_reading.specs.declared.exprs.Step.TheVariants.{Going, Complete}
+use Rattle.wasm_reading.specs.ReadValues.{and_then, mapped}
 use Rattle.wasm_reading.specs.ReadTypes.{blocktype_at}
 use Rattle.wasm_reading.specs.ReadInstr.{immediates_at}
 
@@ -26,7 +26,7 @@ shape_of o = shape.Plain
 
 -- an end is that of the innermost construct, or that of the expression
 abbrev pub end_step : Built → Step
-end_step v = if is_inside v.opens then Going (with_end v) else Whole v.before
+end_step v = if is_inside v.opens then Going (with_end v) else Complete v.before
 
 -- behind an opcode
 abbrev pub behind_shape : Shape → Opcode → Built → List ℕ → Option (Step × List ℕ)
@@ -42,7 +42,7 @@ step_at v (b ∷ bytes) = behind_shape (shape_of (opcode_at b)) (opcode_at b) v 
 
 abbrev pub goes_on : (Built → List ℕ → Option (Sequence × List ℕ)) → Step → List ℕ → Option (Sequence × List ℕ)
 goes_on go (Going v) rest = go v rest
-goes_on go (Whole s) rest = Some (s, rest)
+goes_on go (Complete s) rest = Some (s, rest)
 
 -- the rest of an expression of which that much was read, in so many steps at most
 unfoldable pub steps_at : ℕ → Built → List ℕ → Option (Sequence × List ℕ)

@@ -8,7 +8,7 @@ use Rattle.wasm_ast.specs.declared.opcode.AtomicOpcode.{AtomicOpcode}
 use Rattle.wasm_ast.specs.declared.opcode.AtomicOpcode.TheVariants as atomic
 use Rattle.wasm_ast.specs.Immediates.{Immediates, Nothing, Index, Labels, IndexAndZero, Argument, Zero, Signed32, Signed64, Raw, Never, Value}
 use Rattle.wasm_ast.specs.OpcodeTables.{atomic_at, Plan, plan_of, atomic_plan_of}
-use Rattle.wasm_reading.specs.Reading.{and_then, mapped, pair_at, next_at, behind_at, span_at, u32_at, i32_at, i64_at, vec_at}
+use Rattle.wasm_reading.specs.ReadValues.{and_then, mapped, pair_at, next_at, behind_at, span_at, u32_at, i32_at, i64_at, vec_at}
 
 -- nothing, which stands for that
 abbrev pub nothing_at : {X : Type 0} → X → List ℕ → Option (X × List ℕ)

@@ -17,7 +17,7 @@ use Rattle.wasm_ast.specs.declared.module.Code.{Code}
 use Rattle.wasm_ast.specs.declared.module.Module.{Module}
 use Rattle.wasm_ast.specs.Locals.{added}
 use Rattle.wasm_ast.specs.SpelledModule.{Section, content_of, preamble}
-use Rattle.wasm_reading.specs.Reading.{and_then, mapped, pair_at, next_at, u32_at, vec_at, bytes_at, name_at, all_of, sized_at}
+use Rattle.wasm_reading.specs.ReadValues.{and_then, mapped, pair_at, next_at, u32_at, vec_at, bytes_at, name_at, all_of, sized_at}
 use Rattle.wasm_reading.specs.ReadTypes.{valtype_at, functype_at, memory_at, table_at, globaltype_at}
 use Rattle.wasm_reading.specs.ReadExpr.{expr_at}
 

@@ -5,7 +5,7 @@ use Rattle.wasm_ast.specs.declared.types.ValType.{ValType}
 use Rattle.wasm_ast.specs.declared.types.ValType.TheVariants.{I32, I64, F32, F64}
 use Rattle.wasm_ast.specs.declared.types.FuncType.{FuncType}
 use Rattle.wasm_ast.specs.declared.types.Limits.{Limits}
-use Rattle.wasm_reading.specs.Reading.{and_then, mapped, pair_at, next_at, behind_at, u32_at, vec_at, byte_as}
+use Rattle.wasm_reading.specs.ReadValues.{and_then, mapped, pair_at, next_at, behind_at, u32_at, vec_at, byte_as}
 
 -- the value type of a byte
 abbrev pub valtype_of : ℕ → Option ValType

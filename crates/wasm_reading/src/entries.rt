@@ -1,14 +1,14 @@
 // The items of sections: WebAssembly Core 1.0, section 5.5.
 ghost use Rattle.std.specs.Prelude.{◌≡◌, ℕ, ◌+◌, ◌<◌, ◌^◌, Option, List, []};
 ghost use Rattle.wasm_ast.specs.Locals.{total};
-ghost use Rattle.wasm_reading.specs.Given.{Gives};
-ghost use Rattle.wasm_reading.specs.Reading.{bytes_at};
+ghost use Rattle.wasm_reading.specs.ReadAnswers.{Gives};
+ghost use Rattle.wasm_reading.specs.ReadValues.{bytes_at};
 ghost use Rattle.wasm_reading.specs.ReadModule.{import_kind_at, import_at, global_at, export_kind_at, export_at, element_at, segment_at, group_at, groups_at, locals_at, code_at};
 
 use crate::exprs::expr;
 use crate::fault::ReadFault;
-use crate::parts::{Read, bytes, name, next, number, vector};
 use crate::types::{globaltype, memory, table, valtype};
+use crate::values::{Read, bytes, name, next, number, vector};
 use byte_cursor::Cursor;
 use std::alloc::Global;
 use wasm_ast::{

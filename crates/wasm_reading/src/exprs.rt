@@ -1,12 +1,12 @@
 // Expressions: WebAssembly Core 1.0, sections 5.4.1 and 5.4.6.
 ghost use Rattle.std.specs.Prelude.{◌≡◌, IfOk};
-ghost use Rattle.wasm_reading.specs.Given.{Gives};
+ghost use Rattle.wasm_reading.specs.ReadAnswers.{Gives};
 ghost use Rattle.wasm_reading.specs.ReadExpr.{expr_at, shape_of, end_step, step_at};
 
 use crate::fault::ReadFault;
 use crate::instrs::{immediates, opcode};
-use crate::parts::next;
 use crate::types::blocktype;
+use crate::values::next;
 use byte_cursor::Cursor;
 use std::alloc::{AllocError, Global};
 use wasm_ast::{BlockKind, Body, BodyBuilder, Construct, Opcode};
@@ -41,7 +41,7 @@ pub(crate) enum Step {
     /// That much was read, and there is more.
     Going(BodyBuilder),
     /// The whole expression.
-    Whole(Body),
+    Complete(Body),
 }
 
 /// The end of the innermost construct, or that of the expression.
@@ -51,7 +51,7 @@ fn end(alloc: Global, built: BodyBuilder) -> Result<Step, AllocError>
     if built.is_inside() {
         Ok(Step::Going(built.end(alloc)?))
     } else {
-        Ok(Step::Whole(built.finish()))
+        Ok(Step::Complete(built.finish()))
     }
 }
 
@@ -93,7 +93,7 @@ pub(crate) fn expr(alloc: Global, cursor: &mut Cursor<'_>) -> Result<Body, ReadF
     let mut built = BodyBuilder::new(alloc)?;
     'steps: loop {
         match next_step(alloc, built, cursor)? {
-            Step::Whole(body) => return Ok(body),
+            Step::Complete(body) => return Ok(body),
             Step::Going(next) => built = next,
         }
     }

@@ -1,12 +1,12 @@
 // Instructions without inner instructions: WebAssembly Core 1.0, section 5.4, and the threads proposal.
 ghost use Rattle.std.specs.Prelude.{◌≡◌};
 ghost use Rattle.wasm_ast.specs.OpcodeTables.{opcode_at, atomic_at};
-ghost use Rattle.wasm_reading.specs.Given.{Gives};
+ghost use Rattle.wasm_reading.specs.ReadAnswers.{Gives};
 ghost use Rattle.wasm_reading.specs.ReadInstr.{memarg_at, zero_at, atomic_instr_at, immediates_at};
-ghost use Rattle.wasm_reading.specs.Reading.{mapped, span_at};
+ghost use Rattle.wasm_reading.specs.ReadValues.{mapped, span_at};
 
 use crate::fault::ReadFault;
-use crate::parts::{next, number, signed_32, signed_64, span, vector};
+use crate::values::{next, number, signed_32, signed_64, span, vector};
 use byte_cursor::Cursor;
 use std::alloc::Global;
 use wasm_ast::{ATOMIC_OPCODES, AtomicOpcode, Instr, MemArg, OPCODES, Opcode, Targets};

@@ -10,8 +10,8 @@ mod exprs;
 mod fault;
 mod instrs;
 mod modules;
-mod parts;
 mod types;
+mod values;
 
 pub use fault::ReadFault;
 pub use modules::read;

@@ -3,15 +3,15 @@ ghost use Rattle.std.specs.Prelude.{◌≡◌, ℕ, List, [], ◌∷◌, length,
 ghost use Rattle.std.specs.Option.{option_copied};
 ghost use Rattle.wasm_ast.specs.SpelledModule.{content_of, SpellsModule};
 ghost use Rattle.wasm_ast.specs.declared.module.Module.{Module as SpelledModule};
-ghost use Rattle.wasm_reading.specs.Given.{Gives, Answers};
-ghost use Rattle.wasm_reading.specs.Reading.{each_at, vec_at};
+ghost use Rattle.wasm_reading.specs.ReadAnswers.{Gives, Answers};
+ghost use Rattle.wasm_reading.specs.ReadValues.{each_at, vec_at};
 ghost use Rattle.wasm_reading.specs.ReadTypes.{table_at, memory_at};
 ghost use Rattle.wasm_reading.specs.ReadModule.{all_held, start_held, preamble_at, sections_at, module_of, body_at, module_at};
 ghost use Rattle.wasm_reading.specs.Sections.{views};
 
 use crate::fault::ReadFault;
-use crate::parts::{Read, bytes, name, next, number, vector};
 use crate::types::{memory, table};
+use crate::values::{Read, bytes, name, next, number, vector};
 use byte_cursor::Cursor;
 use std::alloc::Global;
 use wasm_ast::{Items, Limits, Module};

@@ -1,11 +1,11 @@
 // Types: WebAssembly Core 1.0, section 5.3.
 ghost use Rattle.std.specs.Prelude.{◌≡◌, Option};
-ghost use Rattle.wasm_reading.specs.Given.{Gives};
-ghost use Rattle.wasm_reading.specs.Reading.{u32_at};
+ghost use Rattle.wasm_reading.specs.ReadAnswers.{Gives};
+ghost use Rattle.wasm_reading.specs.ReadValues.{u32_at};
 ghost use Rattle.wasm_reading.specs.ReadTypes.{valtype_of, valtype_at, blocktype_of, blocktype_at, functype_at, memory_at, unshared_at, table_at, flag_of, flag_at, globaltype_at};
 
 use crate::fault::ReadFault;
-use crate::parts::{Read, next, number, vector};
+use crate::values::{Read, next, number, vector};
 use byte_cursor::Cursor;
 use std::alloc::Global;
 use wasm_ast::{FuncType, Limits, ValType};

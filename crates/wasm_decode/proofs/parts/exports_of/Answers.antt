@@ -2,7 +2,7 @@ use Rattle.std.proofs.Common.{◌≡◌, ◌++◌, ◌∷◌, []}
 use Rattle.std.proofs.lemmas.Result.{err_from_is_err_and}
 use Rattle.wasm_decode.specs.Views.{export_view, export_views}
 use Rattle.std.proofs.lemmas.List.{map_push}
-use Rattle.wasm_decode.specs.Reading.{each_at, export_at}
+use Rattle.wasm_decode.specs.ThinReading.{each_at, export_at}
 use Rattle.wasm_decode.proofs.Loop.{goes_on, ends, is_done}
 use Rattle.wasm_decode.proofs.parts.exports_of.Goals as goal
 

@@ -1,5 +1,5 @@
 use Rattle.std.proofs.lemmas.Result.{err_from_is_err_and}
-use Rattle.wasm_decode.specs.Reading.{expr_at}
+use Rattle.wasm_decode.specs.ThinReading.{expr_at}
 use Rattle.wasm_decode.proofs.Loop.{expr_ends, expr_goes_on, expr_no_byte, expr_no_instr, expr_full, expr_no_end}
 use Rattle.wasm_decode.proofs.parts.expression.Goals as goal
 

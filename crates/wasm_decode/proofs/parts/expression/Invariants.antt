@@ -1,5 +1,5 @@
 use Rattle.std.proofs.Common.{◌≡◌, ◌-◌}
-use Rattle.wasm_decode.specs.Reading.{expr_at}
+use Rattle.wasm_decode.specs.ThinReading.{expr_at}
 use Rattle.wasm_decode.proofs.Loop.{with_front}
 use Rattle.wasm_decode.proofs.parts.expression.Given as goal
 

@@ -1,5 +1,5 @@
 use Rattle.std.proofs.Common.{◌≡◌, ◌-◌}
-use Rattle.wasm_decode.specs.Reading.{each_at, import_at}
+use Rattle.wasm_decode.specs.ThinReading.{each_at, import_at}
 use Rattle.wasm_decode.proofs.Loop.{with_front}
 use Rattle.wasm_decode.proofs.parts.imports_of.Given as goal
 

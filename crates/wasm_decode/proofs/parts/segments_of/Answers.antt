@@ -1,5 +1,5 @@
 use Rattle.std.proofs.lemmas.Result.{err_from_is_err_and}
-use Rattle.wasm_decode.specs.Reading.{each_at, segment_at}
+use Rattle.wasm_decode.specs.ThinReading.{each_at, segment_at}
 use Rattle.wasm_decode.proofs.Loop.{goes_on, ends, is_done}
 use Rattle.wasm_decode.proofs.parts.segments_of.Goals as goal
 

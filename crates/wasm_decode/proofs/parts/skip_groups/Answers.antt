@@ -1,5 +1,5 @@
 use Rattle.std.proofs.lemmas.Result.{err_from_is_err_and}
-use Rattle.wasm_decode.specs.Reading.{each_at, no_locals_at, rest_of}
+use Rattle.wasm_decode.specs.ThinReading.{each_at, no_locals_at, rest_of}
 use Rattle.wasm_decode.proofs.Loop.{skips_on, skip_ends, skip_done}
 use Rattle.wasm_decode.proofs.parts.skip_groups.Goals as goal
 

@@ -1,5 +1,5 @@
 use Rattle.std.proofs.Common.{◌≡◌, ◌-◌}
-use Rattle.wasm_decode.specs.Reading.{each_at, no_locals_at, rest_of}
+use Rattle.wasm_decode.specs.ThinReading.{each_at, no_locals_at, rest_of}
 use Rattle.wasm_decode.proofs.parts.skip_groups.Given as goal
 
 -- what is still read ends where the whole does

@@ -7,7 +7,7 @@ use Rattle.wasm_decode.specs.declared.thin.ThinMemory.{ThinMemory}
 use Rattle.wasm_decode.specs.ThinModule.{IsValid, module_with}
 use Rattle.wasm_decode.specs.Views.{parts_view}
 use Rattle.wasm_decode.proofs.Distinct.{Differ}
-use Rattle.wasm_decode.proofs.Fit.{thin_from_fit, fit_from_thin, short_of, spelled_by, none_by, fails_by}
+use Rattle.wasm_decode.proofs.ConsistentParts.{thin_from_fit, fit_from_thin, short_of, spelled_by, none_by, fails_by}
 use Rattle.wasm_decode.proofs.read.read_sections.Goals as goal
 
 pub returns-in_err-parts : goal.returns-in_err-parts

@@ -3,7 +3,7 @@ use Rattle.wasm_ast.specs.declared.module.Module.{Module}
 use Rattle.wasm_ast.specs.SpelledModule.{SpellsModule}
 use Rattle.wasm_reading.specs.declared.fault.ReadFault.{ReadFault}
 use Rattle.wasm_reading.specs.declared.fault.ReadFault.TheVariants.{Malformed, Memory}
-use Rattle.wasm_reading.specs.Given.{Answers}
+use Rattle.wasm_reading.specs.ReadAnswers.{Answers}
 use Rattle.wasm_reading.specs.ReadModule.{module_at}
 use Rattle.wasm_reading.proofs.ModuleLaws.{module_takes, module_again}
 use Rattle.wasm_reading.proofs.modules.read.Goals as goal

@@ -1,6 +1,6 @@
 use Rattle.std.proofs.Common.{◌≡◌, ◌∙◌, length, Some, is_some, sym, ap, subst, eqb-true}
 use Rattle.std.proofs.lemmas.List.{map_push}
-use Rattle.wasm_reading.specs.Reading.{name_at}
+use Rattle.wasm_reading.specs.ReadValues.{name_at}
 use Rattle.wasm_reading.specs.ReadModule.{sections_at}
 use Rattle.wasm_reading.specs.Sections.{view, views}
 use Rattle.wasm_reading.proofs.SectionLemmas.{Split, split_custom, split_known, split_shorter, split_done}

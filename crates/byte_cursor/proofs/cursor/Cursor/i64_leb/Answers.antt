@@ -1,6 +1,6 @@
 use Rattle.std.proofs.Common.{arith}
 use Rattle.byte_cursor.specs.Integers.{signed_last, signed_joined}
-use Rattle.byte_cursor.specs.Reading.{signed_at}
+use Rattle.byte_cursor.specs.ReadNumbers.{signed_at}
 use Rattle.byte_cursor.proofs.Laws.{number_of, only_of, end_of, too_long_of}
 use Rattle.byte_cursor.proofs.cursor.Cursor.i64_leb.Goals as goal
 

@@ -1,6 +1,6 @@
 use Rattle.std.proofs.Common.{arith}
 use Rattle.byte_cursor.specs.Integers.{unsigned_last, unsigned_joined}
-use Rattle.byte_cursor.specs.Reading.{unsigned_at}
+use Rattle.byte_cursor.specs.ReadNumbers.{unsigned_at}
 use Rattle.byte_cursor.proofs.Laws.{number_of, only_of, end_of, too_long_of}
 use Rattle.byte_cursor.proofs.cursor.Cursor.u32_leb.Goals as goal
 

@@ -10,7 +10,7 @@ use Rattle.wasm_decode.specs.declared.items.Import.{Import}
 use Rattle.wasm_decode.specs.declared.thin.ThinInstr.{ThinInstr}
 use Rattle.wasm_decode.specs.Grammar.{SpellsVector, SpellsOne, SpellsSized, SpellsSection, SpellsOptional}
 use Rattle.wasm_decode.specs.ThinGrammar.{Export, Parts, SpellsFuncType, SpellsImport, SpellsExport, SpellsMemory, SpellsSegment, SpellsCode, SpellsParts}
-use Rattle.wasm_decode.specs.Reading.{◌>>=◌, u32_at, vector_at, one_at, sized_at, section_at, begins_with, optional_at, func_type_at, import_at, export_at, memory_at, segment_at, code_at, nothing_left, all_at, parts_at}
+use Rattle.wasm_decode.specs.ThinReading.{◌>>=◌, u32_at, vector_at, one_at, sized_at, section_at, begins_with, optional_at, func_type_at, import_at, export_at, memory_at, segment_at, code_at, nothing_left, all_at, parts_at}
 use Rattle.wasm_decode.proofs.Readers.{some, some_is, bind_some, guard_some, IsReader, u32_reader, vector_reader, one_reader, sized_reader, section_reader, optional_takes, optional_again}
 use Rattle.wasm_decode.proofs.ItemReaders.{func_type_reader, import_reader, export_reader, memory_reader, segment_reader, code_reader}
 

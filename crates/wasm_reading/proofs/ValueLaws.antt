@@ -8,10 +8,10 @@ use Rattle.std.specs.Str.{is_utf8}
 use Rattle.std.proofs.lemmas.Str.{IsUtf8-from_is_utf8, is_utf8-from_IsUtf8}
 use Rattle.byte_cursor.specs.declared.leb.CursorFault.{CursorFault}
 use Rattle.byte_cursor.specs.Integers.{BeginsWith, SpellsSigned, unsigned_last, unsigned_joined, signed_last, signed_joined}
-use Rattle.byte_cursor.specs.Reading.{unsigned_at, signed_at}
+use Rattle.byte_cursor.specs.ReadNumbers.{unsigned_at, signed_at}
 use Rattle.byte_cursor.proofs.Laws.{number_takes, number_again}
 use Rattle.wasm_ast.specs.Spelling.{Joined, Behind, SpellsU32, SpellsEach, SpellsVec, SpellsBytes, SpellsName, Sized}
-use Rattle.wasm_reading.specs.Reading.{and_then, mapped, pair_at, next_at, behind_at, u32_at, i32_at, i64_at, each_at, vec_at, span_at, bytes_at, name_at, if_ended, all_of, with_rest, byte_as, sized_at, IsExact}
+use Rattle.wasm_reading.specs.ReadValues.{and_then, mapped, pair_at, next_at, behind_at, u32_at, i32_at, i64_at, each_at, vec_at, span_at, bytes_at, name_at, if_ended, all_of, with_rest, byte_as, sized_at, IsExact}
 
 -- a test that chose
 pub chosen : {A : Type 0} (b : Bool) (x y z : A) → cond b x y ≡ z → ((b ≡ true) × (x ≡ z)) ⊎ ((b ≡ false) × (y ≡ z))

@@ -10,9 +10,9 @@ use Rattle.wasm_ast.specs.Locals.{added, total}
 use Rattle.wasm_ast.specs.Spelling.{Joined, SpellsU32, SpellsEach}
 use Rattle.wasm_ast.specs.SpelledModule.{SpellsImportKind, SpellsImport, SpellsGlobal, SpellsExportKind, SpellsExport, SpellsElement, SpellsSegment, SpellsGroup, SpellsLocals, SpellsCode, gathered}
 use Rattle.wasm_ast.specs.SpelledInstr.{SpellsExpr}
-use Rattle.wasm_reading.specs.Reading.{u32_at, IsExact}
+use Rattle.wasm_reading.specs.ReadValues.{u32_at, IsExact}
 use Rattle.wasm_reading.specs.ReadModule.{import_kind_at, import_at, global_at, export_kind_at, export_at, element_at, segment_at, group_at, groups_at, locals_at, code_at}
-use Rattle.wasm_reading.proofs.ReadingLaws.{chose_some, some_is, read_first, begins_joined, joined_again, mapped_exact, pair_exact, u32_exact, vec_exact, bytes_exact, name_exact, sized_exact, no_tag, tag_takes, tagged_takes, tag_again}
+use Rattle.wasm_reading.proofs.ValueLaws.{chose_some, some_is, read_first, begins_joined, joined_again, mapped_exact, pair_exact, u32_exact, vec_exact, bytes_exact, name_exact, sized_exact, no_tag, tag_takes, tagged_takes, tag_again}
 use Rattle.wasm_reading.proofs.TypeLaws.{valtype_exact, memory_exact, table_exact, globaltype_exact}
 use Rattle.wasm_reading.proofs.ExprAgain.{expr_exact}
 

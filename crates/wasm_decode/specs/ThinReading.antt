@@ -4,7 +4,7 @@ use Rattle.std.specs.Int.{w32, cast_unsigned}
 use Rattle.std.specs.List.{list_all}
 use Rattle.std.specs.Str.{bytes_eq, is_utf8}
 use Rattle.byte_cursor.specs.declared.leb.CursorFault.{CursorFault}
-use Rattle.byte_cursor.specs.Reading.{byte_at as cursor_byte_at, span_at as cursor_span_at, unsigned_at, signed_at}
+use Rattle.byte_cursor.specs.ReadNumbers.{byte_at as cursor_byte_at, span_at as cursor_span_at, unsigned_at, signed_at}
 use Rattle.wasm_decode.specs.ThinGrammar.{Export, Parts, import_name}
 use Rattle.wasm_decode.specs.declared.items.FuncType.{FuncType}
 use Rattle.wasm_decode.specs.declared.items.Import.{Import}

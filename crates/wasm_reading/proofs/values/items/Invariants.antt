@@ -1,5 +1,5 @@
 use Rattle.wasm_reading.proofs.ItemLemmas.{Begun}
-use Rattle.wasm_reading.proofs.parts.items.Given as goal
+use Rattle.wasm_reading.proofs.values.items.Given as goal
 
 abbrev pub invariant-loop : goal.invariant-loop
 invariant-loop g l = Begun g.T.Read.read_at l.n l.initial.cursor l.counter l.items.items l.cursor

@@ -11,11 +11,11 @@ use Rattle.wasm_decode.specs.declared.fault.ThinFault.TheVariants.{Malformed, No
 use Rattle.wasm_decode.specs.ThinModule.{ThinModule, HasFewPages}
 use Rattle.wasm_decode.specs.declared.thin.ThinMemory.{ThinMemory}
 use Rattle.wasm_decode.specs.ThinGrammar.{Export, Parts, IsInRange, IsMemory, IsThin, SpellsSections, module_of}
-use Rattle.wasm_decode.specs.Reading.{Fails, all_at, parts_at}
+use Rattle.wasm_decode.specs.ThinReading.{Fails, all_at, parts_at}
 use Rattle.wasm_decode.specs.Answer.{Answers}
 use Rattle.wasm_decode.specs.Views.{export_view, export_views, parts_view, PartsFit}
 use Rattle.wasm_decode.proofs.Readers.{some, some_is}
-use Rattle.wasm_decode.proofs.Whole.{whole_takes, whole_again}
+use Rattle.wasm_decode.proofs.AllSections.{whole_takes, whole_again}
 use Rattle.wasm_decode.proofs.Distinct.{Differ}
 
 abbrev Apart : Export → Export → Type 0

@@ -3,7 +3,7 @@ use Rattle.std.specs.Prelude.{◌≡◌, ℕ, ℤ, zero, suc, ◌==◌, nat_lt, 
 use Rattle.std.specs.Result.{result_ok}
 use Rattle.std.specs.Str.{is_utf8}
 use Rattle.byte_cursor.specs.Integers.{BeginsWith}
-use Rattle.byte_cursor.specs.Reading as cursor
+use Rattle.byte_cursor.specs.ReadNumbers as cursor
 
 -- reading, and then from the bytes behind what was read
 abbrev pub and_then : {X Y : Type 0} → Option (X × List ℕ) → (X → List ℕ → Option Y) → Option Y

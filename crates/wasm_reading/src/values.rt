@@ -1,8 +1,8 @@
 // Numbers, bytes, names and vectors: WebAssembly Core 1.0, sections 5.1 and 5.2.
 ghost use Rattle.std.specs.Prelude.{◌≡◌, ℕ, List, ◌∷◌, [], Option};
 ghost use Rattle.std.specs.Str.{is_utf8};
-ghost use Rattle.wasm_reading.specs.Given.{Gives};
-ghost use Rattle.wasm_reading.specs.Reading.{next_at, u32_at, i32_at, i64_at, span_at, bytes_at, name_at, each_at, vec_at};
+ghost use Rattle.wasm_reading.specs.ReadAnswers.{Gives};
+ghost use Rattle.wasm_reading.specs.ReadValues.{next_at, u32_at, i32_at, i64_at, span_at, bytes_at, name_at, each_at, vec_at};
 
 use crate::fault::ReadFault;
 use byte_cursor::Cursor;
@@ -29,7 +29,7 @@ pub(crate) fn next(cursor: &mut Cursor<'_>) -> Result<u8, ReadFault>
 }
 
 /// An unsigned number of 32 bits (`u32`, 5.2.2).
-#[tactic(auto, unfolding(crate::specs::Reading::u32_at))]
+#[tactic(auto, unfolding(crate::specs::ReadValues::u32_at))]
 pub(crate) fn number(cursor: &mut Cursor<'_>) -> Result<u32, ReadFault>
     ensures { Gives (λ x. x) result cursor.new (u32_at cursor.old) }
 {
@@ -37,7 +37,7 @@ pub(crate) fn number(cursor: &mut Cursor<'_>) -> Result<u32, ReadFault>
 }
 
 /// A signed number of 32 bits (`i32`, 5.2.2).
-#[tactic(auto, unfolding(crate::specs::Reading::i32_at))]
+#[tactic(auto, unfolding(crate::specs::ReadValues::i32_at))]
 pub(crate) fn signed_32(cursor: &mut Cursor<'_>) -> Result<i32, ReadFault>
     ensures { Gives (λ x. x) result cursor.new (i32_at cursor.old) }
 {
@@ -45,7 +45,7 @@ pub(crate) fn signed_32(cursor: &mut Cursor<'_>) -> Result<i32, ReadFault>
 }
 
 /// A signed number of 64 bits (`i64`, 5.2.2).
-#[tactic(auto, unfolding(crate::specs::Reading::i64_at))]
+#[tactic(auto, unfolding(crate::specs::ReadValues::i64_at))]
 pub(crate) fn signed_64(cursor: &mut Cursor<'_>) -> Result<i64, ReadFault>
     ensures { Gives (λ x. x) result cursor.new (i64_at cursor.old) }
 {

@@ -1,7 +1,7 @@
 use Rattle.std.proofs.Common.{arith}
 use Rattle.std.proofs.lemmas.Result.{err_from_is_err_and}
 use Rattle.wasm_reading.proofs.ItemLemmas.{begun_none, begun_more, begun_none_left, begun_all, handed_on}
-use Rattle.wasm_reading.proofs.parts.items.Goals as goal
+use Rattle.wasm_reading.proofs.values.items.Goals as goal
 
 pub loop-init : goal.loop-init
 loop-init g c = begun_none g.T.Read.read_at c.args.n c.args.cursor.now _ c.new-items.ensures.items
