@@ -1,0 +1,3 @@
+pub mod ExecLemmas
+pub mod PlaceLemmas
+pub mod WordLemmas

@@ -1,0 +1,2 @@
+pub mod PipeRows
+pub mod Transfers
