@@ -1,3 +1,4 @@
 pub mod ExecLemmas
 pub mod PlaceLemmas
+pub mod TotalLemmas
 pub mod WordLemmas

@@ -1,0 +1,45 @@
+// Counts of open ends by pipe.
+ghost use Rattle.std.specs.Prelude.{◌≡◌, ℕ, ◌<◌, ◌+◌, ◌==◌, ◌^◌, nat_lt, if◌then◌else◌, OnOk, OnErr};
+ghost use Rattle.open_desc.specs.Ends.{count_of};
+
+use std::alloc::{AllocError, Global};
+use std::collections::BTreeMap;
+
+/// How many ends of one side are open, by pipe.
+pub(crate) type EndCounts = BTreeMap<u32, usize>;
+
+/// Whether an end of the pipe is open.
+pub(crate) fn has_end(counts: &EndCounts, pipe: u32) -> bool
+    ensures { result ≡ nat_lt 0 (count_of counts.now pipe) }
+{
+    match counts.get(&pipe) {
+        Some(count) => *count > 0,
+        None => false,
+    }
+}
+
+/// Counts one more end of the pipe. `AllocError` is want of memory, and all is as before.
+pub(crate) fn add_end(counts: &mut EndCounts, pipe: u32) -> Result<(), AllocError>
+    requires { count_of counts.old pipe + 1 < 2 ^ 64 }
+    ensures ok { OnOk result ((q : ℕ) → count_of counts.new q ≡ count_of counts.old q + (if q == pipe then 1 else 0)) }
+    ensures err { OnErr result ((q : ℕ) → count_of counts.new q ≡ count_of counts.old q) }
+{
+    let count = counts.get(&pipe).copied().unwrap_or(0);
+    counts.insert(pipe, count + 1)?;
+    Ok(())
+}
+
+/// Counts one end of the pipe fewer.
+pub(crate) fn remove_end(counts: &mut EndCounts, pipe: u32)
+    requires { 0 < count_of counts.old pipe }
+    ensures { (q : ℕ) → count_of counts.new q + (if q == pipe then 1 else 0) ≡ count_of counts.old q }
+{
+    let count = counts.get(&pipe).copied().unwrap_or(0);
+    if count <= 1 {
+        counts.remove(&pipe);
+        return;
+    }
+    if counts.insert(pipe, count - 1).is_err() {
+        unreachable!();
+    }
+}
