@@ -1,8 +1,8 @@
 -- Sums over the values of a map, after one was written or removed.
-use Rattle.std.proofs.Common.{◌≡◌, ◌≢◌, ℕ, ◌+◌, ◌<◌, ◌≤◌, Bool, true, false, cond, ◌&&◌, List, [], ◌∷◌, map, length, Option, Some, None, refl, sym, ap, ◌∙◌, subst, arith, inl, inr, T}
+use Rattle.std.proofs.Common.{◌≡◌, ◌≢◌, ℕ, ◌+◌, ◌<◌, ◌≤◌, Bool, true, false, cond, ◌&&◌, ◌||◌, ltb, zero-add, List, [], ◌∷◌, map, length, Option, Some, None, refl, sym, ap, ◌∙◌, subst, arith, inl, inr, T}
 use Rattle.std.specs.declared.cmp.Ordering.{Ordering}
 use Rattle.std.specs.declared.cmp.Ordering.TheVariants.{Less, Equal, Greater}
-use Rattle.std.specs.List.{sum_by}
+use Rattle.std.specs.List.{sum_by, list_any}
 use Rattle.std.specs.Option.{option_map_or}
 use Rattle.std.specs.Ordering.{nat_cmp, eq_by_cmp, is_lt}
 use Rattle.std.specs.Cmp.{nat_cmp_total}
@@ -121,3 +121,20 @@ module _ {X : Type 0} where
   -- a number's part is within the sum
   pub part-le_total : (f : X → ℕ) (m : FinMap nat_cmp X) (k : ℕ) → option_map_or f (get m k) 0 ≤ total f m
   part-le_total f m k = omega (arith, total-remove f m k)
+
+  any_of : (p : X → Bool) (xs : List X) → ltb 0 (sum_by (λ x. cond (p x) 1 0) xs) ≡ list_any p xs
+  any_of p [] = refl
+  any_of p (x ∷ xs) =
+      ap (ltb 0) (sum_by-cons (λ y. cond (p y) 1 0) x xs)
+      ∙ elim (p x) as (λ b. ltb 0 (cond b 1 0 + sum_by (λ y. cond (p y) 1 0) xs) ≡ (b || list_any p xs)) [
+        | true ↦ first (sum_by (λ y. cond (p y) 1 0) xs)
+        | false ↦ ap (ltb 0) (zero-add _) ∙ any_of p xs
+      ]
+    where
+    first : (n : ℕ) → ltb 0 (1 + n) ≡ true
+    first n = grind (arith, nat_tests)
+
+  -- a count is above 0 where some value is counted
+  pub total-any : (p : X → Bool) (m : FinMap nat_cmp X) → ltb 0 (total (λ x. cond (p x) 1 0) m) ≡ list_any p (values m)
+  unfolding total
+  total-any p m = any_of p (values m)

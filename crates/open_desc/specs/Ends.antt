@@ -3,9 +3,7 @@ use Rattle.std.specs.Prelude.{◌≡◌, ℕ, Bool, ◌+◌, ◌==◌, ◌≤◌
 use Rattle.std.specs.Ordering.{nat_cmp}
 use Rattle.std.specs.BTreeMap.{BTreeMap, get}
 use Rattle.std.specs.FinMap.{len}
-use Rattle.fd_table.specs.Places.{by_place}
 use Rattle.fd_table.specs.Totals.{total}
-use Rattle.slab.specs.Slab.{Slab}
 use Rattle.open_desc.specs.Codes.{Opens}
 use Rattle.open_desc.specs.Descriptions.{is_end}
 use Rattle.open_desc.specs.declared.description.Opened.{Opened}
@@ -22,8 +20,8 @@ end_weight pipe writing o = if is_end pipe writing o.description.kind then 1 els
 abbrev pub Counts : BTreeMap ℕ ℕ → Opens → Bool → Type 0
 Counts counts opens writing = (pipe : ℕ) → count_of counts pipe ≡ total (end_weight pipe writing) opens
 
--- the open descriptions in a slab, at most 1,024, with counts of both sides
-pub record AreCounted (slab : Slab Opened) (readers writers : BTreeMap ℕ ℕ) : Type 0 where
-  pub few : len (by_place slab.slots) ≤ 1024
-  pub reading : Counts readers (by_place slab.slots) false
-  pub writing : Counts writers (by_place slab.slots) true
+-- at most 1,024 open descriptions, with counts of both sides
+pub record AreCounted (opens : Opens) (readers writers : BTreeMap ℕ ℕ) : Type 0 where
+  pub few : len opens ≤ 1024
+  pub reading : Counts readers opens false
+  pub writing : Counts writers opens true
