@@ -64,7 +64,7 @@ without_marked_below-zero table =
     (λ q. get-without_marked_below table 0 q ∙ ap (λ b. cond (not (b && is_some (marked_id table q))) (get table q) None) (below_none q))
 
 -- the number n itself is still as it was
-get_at : (table : Table) (n : ℕ) → get (without_marked_below table n) n ≡ get table n
+pub get_at : (table : Table) (n : ℕ) → get (without_marked_below table n) n ≡ get table n
 get_at table n = get-without_marked_below table n n ∙ ap (λ b. cond (not (b && is_some (marked_id table n))) (get table n) None) (below_itself n)
 
 pub marked_id-without_marked_below : (table : Table) (n : ℕ) → marked_id (without_marked_below table n) n ≡ marked_id table n

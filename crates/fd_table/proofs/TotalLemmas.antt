@@ -1,5 +1,5 @@
 -- Sums over the values of a map, after one was written or removed.
-use Rattle.std.proofs.Common.{◌≡◌, ◌≢◌, ℕ, ◌+◌, ◌<◌, ◌≤◌, Bool, true, false, cond, ◌&&◌, ◌||◌, ltb, zero-add, List, [], ◌∷◌, map, length, Option, Some, None, refl, sym, ap, ◌∙◌, subst, arith, inl, inr, T}
+use Rattle.std.proofs.Common.{◌≡◌, ◌≢◌, ℕ, ◌+◌, ◌<◌, ◌≤◌, Bool, true, false, cond, ◌&&◌, ◌||◌, ltb, zero-add, List, [], ◌∷◌, map, length, Option, Some, None, refl, sym, ap, ◌∙◌, subst, arith, inl, inr, ◌⊎◌, T}
 use Rattle.std.specs.declared.cmp.Ordering.{Ordering}
 use Rattle.std.specs.declared.cmp.Ordering.TheVariants.{Less, Equal, Greater}
 use Rattle.std.specs.List.{sum_by, list_any}
@@ -8,7 +8,7 @@ use Rattle.std.specs.Ordering.{nat_cmp, eq_by_cmp, is_lt}
 use Rattle.std.specs.Cmp.{nat_cmp_total}
 use Rattle.std.specs.FinMap.{FinMap, get, insert, remove, empty, entries, values, put, find, is_sorted, entries_sorted, entries-insert, get-entries, len-entries, empty_of_len, len-empty, len}
 use Rattle.std.specs.FinMap.Entries.{below_all, by_order}
-use Rattle.std.proofs.lemmas.Bool.{cases_order}
+use Rattle.std.proofs.lemmas.Bool.{cases_order, cases_lt}
 use Rattle.std.proofs.lemmas.Bool.Decides.{nat_tests}
 use Rattle.std.proofs.lemmas.List.Sums.{sum_by-cons}
 use Rattle.fd_table.specs.Totals.{total}
@@ -138,3 +138,43 @@ module _ {X : Type 0} where
   pub total-any : (p : X → Bool) (m : FinMap nat_cmp X) → ltb 0 (total (λ x. cond (p x) 1 0) m) ≡ list_any p (values m)
   unfolding total
   total-any p m = any_of p (values m)
+
+  none_some : {x : X} → ◌≡◌ {A = Option X} None (Some x) → ⊥
+  none_some e = cc
+
+  positive_in : (g : X → ℕ) (es : List (ℕ × X)) → T (is_sorted nat_cmp es) → 0 < sum_of g es → (k : ℕ) × (v : X) × (find nat_cmp k es ≡ Some v) × (0 < g v)
+  positive_in g [] h positive = absurd (omega (arith, sum_of-empty g))
+  positive_in g (e ∷ es) h positive = by_first (cases_lt 0 (g e.1)) (positive_in g es (second_of _ _ h))
+    where
+    by_first : (0 < g e.1) ⊎ (g e.1 ≤ 0) → (0 < sum_of g es → (k : ℕ) × (v : X) × (find nat_cmp k es ≡ Some v) × (0 < g v)) → (k : ℕ) × (v : X) × (find nat_cmp k (e ∷ es) ≡ Some v) × (0 < g v)
+    by_first (inl here) later = (e.0, e.1, ap (λ b. cond b (Some e.1) (find nat_cmp e.0 es)) (tied_same e.0 e.0 refl), here)
+    by_first (inr none) later =
+        let rest : (k : ℕ) × (v : X) × (find nat_cmp k es ≡ Some v) × (0 < g v) = later (omega (arith, sum_of-cons g e es)) in
+        (rest.0, rest.1, ap (λ b. cond b (Some e.1) (find nat_cmp rest.0 es)) (tied_other rest.0 e.0 (λ same. none_some (sym (absent rest.0 e.0 (omega arith) es (first_of _ _ h)) ∙ rest.2))) ∙ rest.2, rest.3)
+
+  -- a sum above 0 has a part above 0
+  pub total-positive : (g : X → ℕ) (m : FinMap nat_cmp X) → 0 < total g m → (k : ℕ) × (v : X) × (get m k ≡ Some v) × (0 < g v)
+  total-positive g m positive =
+      let found : (k : ℕ) × (v : X) × (find nat_cmp k (entries m) ≡ Some v) × (0 < g v) = positive_in g (entries m) (entries_sorted m) (omega (arith, total-sum g m)) in
+      (found.0, found.1, get-entries m found.0 ∙ found.2, found.3)
+
+  -- some value passes where some number has one that passes
+  pub any-found : (p : X → Bool) (m : FinMap nat_cmp X) → list_any p (values m) ≡ true → (k : ℕ) × (v : X) × (get m k ≡ Some v) × (p v ≡ true)
+  any-found p m h =
+      let above : 0 < total (λ x. cond (p x) 1 0) m = above_zero _ (total-any p m ∙ h) in
+      let found : (k : ℕ) × (v : X) × (get m k ≡ Some v) × (0 < cond (p v) 1 0) = total-positive (λ x. cond (p x) 1 0) m above in
+      (found.0, found.1, found.2, passes (p found.1) found.3)
+    where
+    above_zero : (n : ℕ) → ltb 0 n ≡ true → 0 < n
+    above_zero n e = grind (arith, nat_tests)
+    passes : (b : Bool) → 0 < cond b 1 0 → b ≡ true
+    passes true h = refl
+    passes false h = absurd (omega arith)
+
+  pub any-present : (p : X → Bool) (m : FinMap nat_cmp X) (k : ℕ) (v : X) → get m k ≡ Some v → p v ≡ true → list_any p (values m) ≡ true
+  any-present p m k v e h =
+      let here : option_map_or (λ x. cond (p x) 1 0) (get m k) 0 ≡ 1 = ap (part (λ x. cond (p x) 1 0)) e ∙ ap (λ b. cond b 1 0) h in
+      sym (total-any p m) ∙ above (total (λ x. cond (p x) 1 0) m) (omega (arith, here, part-le_total (λ x. cond (p x) 1 0) m k))
+    where
+    above : (n : ℕ) → 0 < n → ltb 0 n ≡ true
+    above n h = grind (arith, nat_tests)

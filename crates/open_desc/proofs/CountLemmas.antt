@@ -83,11 +83,11 @@ AreCounted-none opens readers writers none no_readers no_writers = record {
   writing = Counts-none writers true no_writers;
 }
   where
-  Counts-none : (counts : BTreeMap ℕ ℕ) (writing : Bool) → counts.entries ≡ [] → Counts counts opens writing
-  Counts-none counts writing e pipe = zero_of counts pipe e ∙ sym (ap (total (end_weight pipe writing)) none ∙ total-empty (end_weight pipe writing))
-    where
-    zero_of : (counts : BTreeMap ℕ ℕ) (pipe : ℕ) → counts.entries ≡ [] → count_of counts pipe ≡ 0
-    zero_of counts pipe e = grind (arith, common_steps)
+    Counts-none : (counts : BTreeMap ℕ ℕ) (writing : Bool) → counts.entries ≡ [] → Counts counts opens writing
+    Counts-none counts writing e pipe = zero_of counts pipe e ∙ sym (ap (total (end_weight pipe writing)) none ∙ total-empty (end_weight pipe writing))
+      where
+        zero_of : (counts : BTreeMap ℕ ℕ) (pipe : ℕ) → counts.entries ≡ [] → count_of counts pipe ≡ 0
+        zero_of counts pipe e = grind (arith, common_steps)
 
 -- the counts tell whether an end is open
 pub end_left-counted : (opens : Opens) (counts : BTreeMap ℕ ℕ) (writing : Bool) → Counts counts opens writing → (pipe : ℕ) → ltb 0 (count_of counts pipe) ≡ list_any (λ o. is_end pipe writing o.description.kind) (values opens)

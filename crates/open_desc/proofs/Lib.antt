@@ -1,2 +1,5 @@
 pub mod CountLemmas
+pub mod ProcessLemmas
+pub mod ReferenceLemmas
 pub mod SlabLemmas
+pub mod TableLemmas

@@ -43,8 +43,11 @@ after_open descs id description = record {
 abbrev pub referred : Opened → ℕ → Opened
 referred o references = record { number = o.number; description = o.description; references = references }
 
+abbrev pub shared : Descriptions → ℕ → Opened → Descriptions
+shared descs id o = with_opened descs id (referred o (o.references + 1))
+
 abbrev pub after_share : Descriptions → ℕ → Descriptions
-after_share descs id = option_map_or (λ o. with_opened descs id (referred o (o.references + 1))) (get descs.opens id) descs
+after_share descs id = option_map_or (shared descs id) (get descs.opens id) descs
 
 -- one fewer: at the last the description is closed, and its kind handed back
 abbrev pub is_last : Opened → Bool
@@ -53,11 +56,13 @@ is_last o = nat_le o.references 1
 abbrev pub released_kind : Descriptions → ℕ → Option Kind
 released_kind descs id = option_and_then (λ o. if is_last o then Some o.description.kind else None) (get descs.opens id)
 
+abbrev pub released : Descriptions → ℕ → Opened → Descriptions
+released descs id o =
+    if is_last o then record { opens = remove descs.opens id; next = descs.next }
+    else with_opened descs id (referred o (o.references - 1))
+
 abbrev pub after_release : Descriptions → ℕ → Descriptions
-after_release descs id =
-    option_map_or
-    (λ o. if is_last o then record { opens = remove descs.opens id; next = descs.next } else with_opened descs id (referred o (o.references - 1)))
-    (get descs.opens id) descs
+after_release descs id = option_map_or (released descs id) (get descs.opens id) descs
 
 -- the description changed, where it is there
 abbrev pub changed : Descriptions → ℕ → (Description → Description) → Descriptions

@@ -1,3 +1,4 @@
 pub mod Codes
 pub mod Descriptions
 pub mod Ends
+pub mod Processes

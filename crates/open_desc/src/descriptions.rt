@@ -1,6 +1,7 @@
 // Descriptions in a slab, with counts of the open ends of pipes.
 ghost use Rattle.std.specs.Prelude.{◌≡◌, ◌<◌, ◌≤◌, ◌+◌, ◌^◌, ◌↔◌, ◌⊎◌, ◌==◌, None, IsSome, IfSome, IsSomeAnd, IfOk, IfErr, OnOk, OnErr, option_copied};
 ghost use Rattle.std.specs.FinMap.{empty, get as opened_at, remove, len};
+ghost use Rattle.open_desc.specs.Processes.{CountsStay};
 ghost use Rattle.open_desc.specs.Descriptions.{description_of, references_of, with_opened, after_open, after_share, released_kind, after_release, changed, with_flags, end_left};
 
 use crate::description::{Description, Kind, Opened};
@@ -43,7 +44,10 @@ impl Model for Descs {
 impl Descs {
     /// No descriptions, with room for none. `AllocError` is want of memory.
     pub fn new(alloc: Global) -> Result<Descs, AllocError>
-        ensures { IfOk result (λ descs. descs ≡ record { opens = empty; next = 0 }) }
+        ensures empty { IfOk result (λ descs. descs ≡ record { opens = empty; next = 0 }) }
+
+        // Whatever processes do with them, a description has as many references as descriptors name it.
+        ensures counts { IfOk result CountsStay }
     {
         Ok(Descs {
             slab: Slab::new(alloc),
@@ -115,7 +119,11 @@ impl Descs {
         let Some(opened) = self.slab.try_remove(id) else {
             unreachable!();
         };
-        end_closed(&mut self.readers, &mut self.writers, opened.description.kind);
+        end_closed(
+            &mut self.readers,
+            &mut self.writers,
+            opened.description.kind,
+        );
     }
 
     /// Opens a description with one reference and the next number, and gives its id. `Nfile` comes
@@ -207,7 +215,13 @@ impl Descs {
         ensures { self.new ≡ changed self.old id (with_flags flags) }
     {
         if let Some(&description) = self.get(id) {
-            self.change(id, Description { flags, ..description });
+            self.change(
+                id,
+                Description {
+                    flags,
+                    ..description
+                },
+            );
         }
     }
 }

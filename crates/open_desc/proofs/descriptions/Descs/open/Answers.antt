@@ -50,13 +50,13 @@ free_id old new id e none = ap (λ opens. get opens id) (sym (same_places old ne
 pub invariant_of-self-2 : goal.invariant_of-self-2
 invariant_of-self-2 c =
     let opened = by_place-updated c.reserve.new.self c.insert_reserved-id.new.self c.insert_reserved-id.result (new_entry c.self.inside.next c.args.description) c.insert_reserved-id.ensures.updates
-      ∙ ap (λ (opens : Opens). insert opens c.insert_reserved-id.result (new_entry c.self.inside.next c.args.description)) (same_places c.self.inside.slab c.reserve.new.self c.reserve.ensures.rest_kept) in
+    ∙ ap (λ (opens : Opens). insert opens c.insert_reserved-id.result (new_entry c.self.inside.next c.args.description)) (same_places c.self.inside.slab c.reserve.new.self c.reserve.ensures.rest_kept) in
     subst (λ opens. AreCounted opens c.end_opened.new.readers c.end_opened.new.writers) (sym opened)
     (AreCounted-opened _ c.self.inside.readers c.self.inside.writers c.end_opened.new.readers c.end_opened.new.writers c.insert_reserved-id.result (new_entry c.self.inside.next c.args.description) c.self.invariant
-      (free_id c.self.inside.slab c.reserve.new.self _ c.reserve.ensures.rest_kept c.insert_reserved-id.ensures.was_vacant)
-      (omega (arith, c.if-len-ge-OPEN_DESCRIPTIONS.false, c.len.ensures, len-by_place c.self.inside.slab))
-      (on_ok c.end_opened.result (sym c.is_err-2.ensures.value ∙ c.if-is_err-2.false) c.end_opened.ensures.reading)
-      (on_ok c.end_opened.result (sym c.is_err-2.ensures.value ∙ c.if-is_err-2.false) c.end_opened.ensures.writing))
+    (free_id c.self.inside.slab c.reserve.new.self _ c.reserve.ensures.rest_kept c.insert_reserved-id.ensures.was_vacant)
+    (omega (arith, c.if-len-ge-OPEN_DESCRIPTIONS.false, c.len.ensures, len-by_place c.self.inside.slab))
+    (on_ok c.end_opened.result (sym c.is_err-2.ensures.value ∙ c.if-is_err-2.false) c.end_opened.ensures.reading)
+    (on_ok c.end_opened.result (sym c.is_err-2.ensures.value ∙ c.if-is_err-2.false) c.end_opened.ensures.writing))
 
 pub returns-clause-free : goal.returns-clause-free
 returns-clause-free c =
@@ -66,6 +66,6 @@ returns-clause-free c =
 pub returns-clause-opened : goal.returns-clause-opened
 returns-clause-opened c =
     let opened = by_place-updated c.reserve.new.self c.insert_reserved-id.new.self c.insert_reserved-id.result (new_entry c.self.inside.next c.args.description) c.insert_reserved-id.ensures.updates
-      ∙ ap (λ (opens : Opens). insert opens c.insert_reserved-id.result (new_entry c.self.inside.next c.args.description)) (same_places c.self.inside.slab c.reserve.new.self c.reserve.ensures.rest_kept) in
+    ∙ ap (λ (opens : Opens). insert opens c.insert_reserved-id.result (new_entry c.self.inside.next c.args.description)) (same_places c.self.inside.slab c.reserve.new.self c.reserve.ensures.rest_kept) in
     ap (λ (opens : Opens). record { opens = opens; next = c.self.inside.next + 1 }) opened
     ∙ ap (λ descs. after_open descs c.insert_reserved-id.result c.args.description) c.self.view_is
