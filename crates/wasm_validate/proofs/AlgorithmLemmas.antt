@@ -6,7 +6,7 @@ use Rattle.wasm_ast.specs.declared.instr.BlockKind.{BlockKind}
 use Rattle.wasm_ast.specs.declared.instr.BlockKind.TheVariants as kind
 use Rattle.wasm_ast.specs.Sequence.{Sequence, Empty, Plain, Block, If}
 use Rattle.wasm_ast.specs.Events.{Event, Instruction, Begin, Else, End, is_empty, events}
-use Rattle.wasm_ast.specs.Typing.{Context, Labels, Operands, no_operands, given, popped, after, leaves, typed, label_of, is_body}
+use Rattle.wasm_ast.specs.Typing.{Context, Labels, Operands, no_operands, push_operands, pop_expected, after, leaves, typed, label_of, is_body}
 use Rattle.wasm_validate.specs.Blocks.{Enclosing, OpenBlocks, labels_of, first_block, opened, ended}
 use Rattle.wasm_validate.specs.Algorithm.{fitting, with_operands, begun, at_else, at_end, step, behind}
 
@@ -21,7 +21,7 @@ behind_append c (e ∷ es) fs v = behind_append c es fs (option_and_then (step c
 
 -- the operands that a block leaves, and the blocks around it
 end_leaves : (c : Context) (k : BlockKind) (of : Option ValType) (v : OpenBlocks) (s : Operands) (o : Option Operands) →
-    option_and_then (step c End) (option_map (with_operands (opened k of (with_operands v s))) o) ≡ cond (leaves of o) (Some (with_operands v (given (option_to_list of) s))) None
+    option_and_then (step c End) (option_map (with_operands (opened k of (with_operands v s))) o) ≡ cond (leaves of o) (Some (with_operands v (push_operands (option_to_list of) s))) None
 end_leaves c k of v s None = refl
 end_leaves c k of v s (Some a) = refl
 
@@ -47,14 +47,14 @@ module _ (c : Context) where
   -- a block, a loop or an arm of an if, its end, and the rest
   block_typed : (body rest : Sequence) → IsTyped body → IsTyped rest → (k : BlockKind) (of : Option ValType) (v : OpenBlocks) (s : Operands) →
       behind c (events body ++ (End ∷ events rest)) (Some (opened k of (with_operands v s)))
-      ≡ option_map (with_operands v) (cond (leaves of (typed c (label_of k of ∷ labels_of v.enclosing) body no_operands)) (typed c (labels_of v.enclosing) rest (given (option_to_list of) s)) None)
+      ≡ option_map (with_operands v) (cond (leaves of (typed c (label_of k of ∷ labels_of v.enclosing) body no_operands)) (typed c (labels_of v.enclosing) rest (push_operands (option_to_list of) s)) None)
   block_typed body rest h g k of v s =
       let w = opened k of (with_operands v s) in
       let o = typed c (label_of k of ∷ labels_of v.enclosing) body no_operands in
       behind_append c (events body) (End ∷ events rest) (Some w)
       ∙ ap (behind c (End ∷ events rest)) (h w)
       ∙ ap (behind c (events rest)) (end_leaves c k of v s o)
-      ∙ over_if rest g v (given (option_to_list of) s) (leaves of o)
+      ∙ over_if rest g v (push_operands (option_to_list of) s) (leaves of o)
 
   both : {A : Type 0} (a b : Bool) (x : Option A) → cond a (cond b x None) None ≡ cond (a && b) x None
   both true b x = refl
@@ -62,14 +62,14 @@ module _ (c : Context) where
 
   second_typed : (second rest : Sequence) → IsTyped second → IsTyped rest → (of : Option ValType) (v : OpenBlocks) (s : Operands) (a : Bool) →
       behind c (events second ++ (End ∷ events rest)) (cond a (Some (opened kind.Block of (with_operands v s))) None)
-      ≡ option_map (with_operands v) (cond a (cond (leaves of (typed c (of ∷ labels_of v.enclosing) second no_operands)) (typed c (labels_of v.enclosing) rest (given (option_to_list of) s)) None) None)
+      ≡ option_map (with_operands v) (cond a (cond (leaves of (typed c (of ∷ labels_of v.enclosing) second no_operands)) (typed c (labels_of v.enclosing) rest (push_operands (option_to_list of) s)) None) None)
   second_typed second rest h g of v s true = block_typed second rest h g kind.Block of v s
   second_typed second rest h g of v s false = behind_none c (events second ++ (End ∷ events rest))
 
   arms_typed : (first second rest : Sequence) → IsTyped first → IsTyped second → IsTyped rest → (of : Option ValType) (v : OpenBlocks) (o : Option Operands) →
       behind c (events first ++ (Else (is_empty second) ∷ events second ++ (End ∷ events rest))) (option_map (λ s. opened kind.Block of (with_operands v s)) o)
       ≡ option_map (with_operands v)
-      (option_and_then (λ a. cond (leaves of (typed c (of ∷ labels_of v.enclosing) first no_operands) && leaves of (typed c (of ∷ labels_of v.enclosing) second no_operands)) (typed c (labels_of v.enclosing) rest (given (option_to_list of) a)) None) o)
+      (option_and_then (λ a. cond (leaves of (typed c (of ∷ labels_of v.enclosing) first no_operands) && leaves of (typed c (of ∷ labels_of v.enclosing) second no_operands)) (typed c (labels_of v.enclosing) rest (push_operands (option_to_list of) a)) None) o)
   arms_typed first second rest f h g of v None = behind_none c (events first ++ (Else (is_empty second) ∷ events second ++ (End ∷ events rest)))
   arms_typed first second rest f h g of v (Some s) =
       let w = opened kind.Block of (with_operands v s) in
@@ -79,13 +79,13 @@ module _ (c : Context) where
       ∙ ap (behind c (Else (is_empty second) ∷ events second ++ (End ∷ events rest))) (f w)
       ∙ ap (behind c (events second ++ (End ∷ events rest))) (else_leaves c (is_empty second) of v s o)
       ∙ second_typed second rest h g of v s (leaves of o)
-      ∙ ap (option_map (with_operands v)) (both (leaves of o) (leaves of p) (typed c (labels_of v.enclosing) rest (given (option_to_list of) s)))
+      ∙ ap (option_map (with_operands v)) (both (leaves of o) (leaves of p) (typed c (labels_of v.enclosing) rest (push_operands (option_to_list of) s)))
 
   behind_typed : (t : Sequence) → IsTyped t
   behind_typed Empty v = refl
   behind_typed (Plain i rest) v = over rest (behind_typed rest) v (after c (labels_of v.enclosing) i v.operands)
   behind_typed (Block k of body rest) v = block_typed body rest (behind_typed body) (behind_typed rest) k of v v.operands
-  behind_typed (If of first second rest) v = arms_typed first second rest (behind_typed first) (behind_typed second) (behind_typed rest) of v (popped I32 v.operands)
+  behind_typed (If of first second rest) v = arms_typed first second rest (behind_typed first) (behind_typed second) (behind_typed rest) of v (pop_expected I32 v.operands)
 
 -- the operands are exactly the value that a function leaves
 abbrev pub leave : Option ValType → Option OpenBlocks → Bool

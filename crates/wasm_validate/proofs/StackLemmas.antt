@@ -3,7 +3,7 @@ use Rattle.std.proofs.Common.{◌≡◌, ℕ, zero, suc, ◌+◌, ◌-◌, ◌<�
 use Rattle.std.proofs.lemmas.List.{reverse-append, length-reverse, length-drop, take-append-drop, drop_at, get_or-reverse, length-map, take_more}
 use Rattle.std.proofs.lemmas.Option.{slice_get-get_or, slice_get_past, slice_get-map}
 use Rattle.wasm_ast.specs.declared.types.ValType.{ValType}
-use Rattle.wasm_ast.specs.Typing.{Operands, any_operands, popped, taken, is_empty, label_of}
+use Rattle.wasm_ast.specs.Typing.{Operands, unreachable_operands, pop_expected, pop_operands, is_empty, label_of}
 use Rattle.wasm_validate.specs.declared.blocks.Frame.{Frame}
 use Rattle.wasm_validate.specs.Blocks.{outer_labels, Closes}
 use Rattle.wasm_validate.specs.View.{outer_of, view_of, count_of}
@@ -65,33 +65,33 @@ label_past outs xs l (suc n) p h =
     ∙ slice_get_past (map frame_label (reverse outs)) n (omega (arith, length-map (reverse outs) frame_label, length-reverse outs)))
 
 -- the last of some types is taken first
-pub taken-push : (ts : List ValType) (t : ValType) (s : Operands) → taken (ts ++ t ∷ []) s ≡ option_and_then (taken ts) (popped t s)
-taken-push [] t s = elim (popped t s) as (λ o. o ≡ option_and_then (taken []) o) [ None ↦ refl | Some a ↦ refl ]
-taken-push (u ∷ ts) t s =
-    ap (option_and_then (popped u)) (taken-push ts t s)
-    ∙ (elim (popped t s) as (λ o. option_and_then (popped u) (option_and_then (taken ts) o) ≡ option_and_then (taken (u ∷ ts)) o) [ None ↦ refl | Some a ↦ refl ])
+pub pop_operands-push : (ts : List ValType) (t : ValType) (s : Operands) → pop_operands (ts ++ t ∷ []) s ≡ option_and_then (pop_operands ts) (pop_expected t s)
+pop_operands-push [] t s = elim (pop_expected t s) as (λ o. o ≡ option_and_then (pop_operands []) o) [ None ↦ refl | Some a ↦ refl ]
+pop_operands-push (u ∷ ts) t s =
+    ap (option_and_then (pop_expected u)) (pop_operands-push ts t s)
+    ∙ (elim (pop_expected t s) as (λ o. option_and_then (pop_expected u) (option_and_then (pop_operands ts) o) ≡ option_and_then (pop_operands (u ∷ ts)) o) [ None ↦ refl | Some a ↦ refl ])
 
-pub taken_more : (ts : List ValType) (k n : ℕ) (d : ValType) (s : Operands) → 0 < n → n ≤ length ts → k ≡ n - 1 → taken (take n ts) s ≡ option_and_then (taken (take k ts)) (popped (get_or ts k d) s)
-taken_more ts k n d s p h e =
+pub pop_operands_more : (ts : List ValType) (k n : ℕ) (d : ValType) (s : Operands) → 0 < n → n ≤ length ts → k ≡ n - 1 → pop_operands (take n ts) s ≡ option_and_then (pop_operands (take k ts)) (pop_expected (get_or ts k d) s)
+pop_operands_more ts k n d s p h e =
     let next : n ≡ k + 1 = omega arith in
-    ap (λ m. taken (take m ts) s) next ∙ ap (λ us. taken us s) (take_more ts k d (omega arith)) ∙ taken-push (take k ts) (get_or ts k d) s
+    ap (λ m. pop_operands (take m ts) s) next ∙ ap (λ us. pop_operands us s) (take_more ts k d (omega arith)) ∙ pop_operands-push (take k ts) (get_or ts k d) s
 
-pub taken_stops : (ts : List ValType) (n : ℕ) (d : ValType) (s : Operands) (o : Option Operands) → 0 < n → n ≤ length ts → None ≡ popped (get_or ts (n - 1) d) s → taken (take n ts) s ≡ o → None ≡ o
-taken_stops ts n d s o p h e q = ap (option_and_then (taken (take (n - 1) ts))) e ∙ sym (taken_more ts (n - 1) n d s p h refl) ∙ q
+pub pop_operands_stops : (ts : List ValType) (n : ℕ) (d : ValType) (s : Operands) (o : Option Operands) → 0 < n → n ≤ length ts → None ≡ pop_expected (get_or ts (n - 1) d) s → pop_operands (take n ts) s ≡ o → None ≡ o
+pop_operands_stops ts n d s o p h e q = ap (option_and_then (pop_operands (take (n - 1) ts))) e ∙ sym (pop_operands_more ts (n - 1) n d s p h refl) ∙ q
 
-pub taken_goes : (ts : List ValType) (n : ℕ) (d : ValType) (s s' : Operands) (o : Option Operands) → 0 < n → n ≤ length ts → Some s' ≡ popped (get_or ts (n - 1) d) s → taken (take n ts) s ≡ o → taken (take (n - 1) ts) s' ≡ o
-taken_goes ts n d s s' o p h e q = ap (option_and_then (taken (take (n - 1) ts))) e ∙ sym (taken_more ts (n - 1) n d s p h refl) ∙ q
+pub pop_operands_goes : (ts : List ValType) (n : ℕ) (d : ValType) (s s' : Operands) (o : Option Operands) → 0 < n → n ≤ length ts → Some s' ≡ pop_expected (get_or ts (n - 1) d) s → pop_operands (take n ts) s ≡ o → pop_operands (take (n - 1) ts) s' ≡ o
+pop_operands_goes ts n d s s' o p h e q = ap (option_and_then (pop_operands (take (n - 1) ts))) e ∙ sym (pop_operands_more ts (n - 1) n d s p h refl) ∙ q
 
 -- each type may be taken where anything may stand
-taken_any : (ts : List ValType) → taken ts any_operands ≡ Some any_operands
-taken_any [] = refl
-taken_any (t ∷ ts) = ap (option_and_then (popped t)) (taken_any ts)
+pop_operands_any : (ts : List ValType) → pop_operands ts unreachable_operands ≡ Some unreachable_operands
+pop_operands_any [] = refl
+pop_operands_any (t ∷ ts) = ap (option_and_then (pop_expected t)) (pop_operands_any ts)
 
-taken_marked : (ts : List ValType) (marked : Bool) (xs : List (Option ValType)) → true ≡ (marked && is_empty xs) →
-    Some (record { marked = marked; types = xs }) ≡ taken ts (record { marked = marked; types = xs })
-taken_marked ts true [] h = sym (taken_any ts)
-taken_marked ts true (x ∷ xs) h = absurd (cc)
-taken_marked ts false xs h = absurd (cc)
+pop_operands_unreachable : (ts : List ValType) (unreachable : Bool) (xs : List (Option ValType)) → true ≡ (unreachable && is_empty xs) →
+    Some (record { unreachable = unreachable; types = xs }) ≡ pop_operands ts (record { unreachable = unreachable; types = xs })
+pop_operands_unreachable ts true [] h = sym (pop_operands_any ts)
+pop_operands_unreachable ts true (x ∷ xs) h = absurd (cc)
+pop_operands_unreachable ts false xs h = absurd (cc)
 
-pub taken_rest : (ts : List ValType) (n : ℕ) (s : Operands) (o : Option Operands) → true ≡ (s.marked && is_empty s.types) → taken (take n ts) s ≡ o → Some s ≡ o
-taken_rest ts n s o h q = taken_marked (take n ts) s.marked s.types h ∙ q
+pub pop_operands_rest : (ts : List ValType) (n : ℕ) (s : Operands) (o : Option Operands) → true ≡ (s.unreachable && is_empty s.types) → pop_operands (take n ts) s ≡ o → Some s ≡ o
+pop_operands_rest ts n s o h q = pop_operands_unreachable (take n ts) s.unreachable s.types h ∙ q

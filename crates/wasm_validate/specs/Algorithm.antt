@@ -7,7 +7,7 @@ use Rattle.wasm_ast.specs.declared.instr.BlockKind.TheVariants as kind
 use Rattle.wasm_ast.specs.declared.instr.Construct.{Construct}
 use Rattle.wasm_ast.specs.declared.instr.Construct.TheVariants as construct
 use Rattle.wasm_ast.specs.Events.{Event, Instruction, Begin, Else, End}
-use Rattle.wasm_ast.specs.Typing.{Context, Operands, no_operands, given, popped, after, leaves}
+use Rattle.wasm_ast.specs.Typing.{Context, Operands, no_operands, push_operands, pop_expected, after, leaves}
 use Rattle.wasm_validate.specs.Blocks.{Outer, Enclosing, OpenBlocks, labels_of, opened}
 
 -- the open blocks, if what came fits
@@ -21,7 +21,7 @@ with_operands v s = record { operands = s; enclosing = v.enclosing }
 
 abbrev pub begun : Construct → Option ValType → OpenBlocks → Option OpenBlocks
 begun (construct.Block k) of v = Some (opened k of v)
-begun construct.If of v = option_map (λ s. opened kind.Block of (with_operands v s)) (popped I32 v.operands)
+begun construct.If of v = option_map (λ s. opened kind.Block of (with_operands v s)) (pop_expected I32 v.operands)
 
 abbrev pub at_else : OpenBlocks → Option OpenBlocks
 at_else v = if leaves v.enclosing.block.of (Some v.operands) then Some (with_operands v no_operands) else None
@@ -29,7 +29,7 @@ at_else v = if leaves v.enclosing.block.of (Some v.operands) then Some (with_ope
 -- around a block that ends, with the value that it leaves
 abbrev pub around : Option ValType → List Outer → Option OpenBlocks
 around of [] = None
-around of (b ∷ bs) = Some (record { operands = given (option_to_list of) b.operands; enclosing = record { block = b.block; outer = bs } })
+around of (b ∷ bs) = Some (record { operands = push_operands (option_to_list of) b.operands; enclosing = record { block = b.block; outer = bs } })
 
 abbrev pub at_end : OpenBlocks → Option OpenBlocks
 at_end v = if leaves v.enclosing.block.of (Some v.operands) then around v.enclosing.block.of v.enclosing.outer else None

@@ -26,9 +26,9 @@ abbrev pub ended : Bool → Operands → Option Operands
 ended true s = Some s
 ended false s = None
 
-abbrev pub drawn_to : Option (Option ValType) → Operands → Option (Option ValType × Operands)
-drawn_to None s = None
-drawn_to (Some x) s = Some (x, s)
+abbrev pub popped_to : Option (Option ValType) → Operands → Option (Option ValType × Operands)
+popped_to None s = None
+popped_to (Some x) s = Some (x, s)
 
 -- what branches to blocks take, by their types and kinds
 abbrev pub outer_labels : List Outer → Labels

@@ -8,7 +8,7 @@ use Rattle.wasm_validate.specs.Blocks.{Outer, OpenBlocks}
 
 -- the operands of a block are the first of those that are left, the last one first
 abbrev pub operands_of : Frame → List (Option ValType) → Operands
-operands_of f xs = record { marked = f.marked; types = take f.own xs }
+operands_of f xs = record { unreachable = f.unreachable; types = take f.own xs }
 
 abbrev pub outer_of : List Frame → List (Option ValType) → List Outer
 outer_of [] xs = []

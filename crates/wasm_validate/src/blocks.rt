@@ -1,8 +1,8 @@
 // The open blocks of a function, with their operands.
 ghost use Rattle.std.specs.Prelude.{◌≡◌, ◌+◌, ◌<◌, ◌^◌, ◌&&◌, true, [], ◌∷◌, IfOk, OnOk, option_to_list, slice_get};
-ghost use Rattle.wasm_ast.specs.Typing.{no_operands, any_operands, pushed, drawn, popped, taken, given, applied, is_empty};
+ghost use Rattle.wasm_ast.specs.Typing.{no_operands, unreachable_operands, push_operand, pop_operand, pop_expected, pop_operands, push_operands, applied, is_empty};
 ghost use Rattle.wasm_ast.specs.Typing.{label_of};
-ghost use Rattle.wasm_validate.specs.Blocks.{OpenBlocks, ended, drawn_to, labels_of, first_block, opened, Closes};
+ghost use Rattle.wasm_validate.specs.Blocks.{OpenBlocks, ended, popped_to, labels_of, first_block, opened, Closes};
 
 use std::alloc::{AllocError, Global};
 use std::marker::Model;
@@ -23,7 +23,7 @@ struct Frame {
     /// How many of the operands are its own.
     own: usize,
     /// Whether anything may stand below them, in code that isn't reached.
-    marked: bool,
+    unreachable: bool,
 }
 
 /// The open blocks. There is at least the one of the function's own instructions.
@@ -58,7 +58,7 @@ impl Blocks {
                     of,
                 },
                 own: 0,
-                marked: false,
+                unreachable: false,
             },
             outer: Vec::new(alloc),
             operands: Vec::new(alloc),
@@ -67,7 +67,7 @@ impl Blocks {
 
     /// Adds an operand, of a known type or of any.
     pub fn push(&mut self, of: Option<ValType>) -> Result<(), AllocError>
-        ensures operands { OnOk result (self.new.operands ≡ pushed of self.old.operands) }
+        ensures operands { OnOk result (self.new.operands ≡ push_operand of self.old.operands) }
         ensures enclosing { self.new.enclosing ≡ self.old.enclosing }
     {
         self.operands.push(of)?;
@@ -77,11 +77,11 @@ impl Blocks {
 
     /// Takes the last operand, if there is one.
     pub fn pop(&mut self) -> Option<Option<ValType>>
-        ensures operands { drawn_to result self.new.operands ≡ drawn self.old.operands }
+        ensures operands { popped_to result self.new.operands ≡ pop_operand self.old.operands }
         ensures enclosing { self.new.enclosing ≡ self.old.enclosing }
     {
         if self.innermost.own == 0 {
-            return if self.innermost.marked {
+            return if self.innermost.unreachable {
                 Some(None)
             } else {
                 None
@@ -93,7 +93,7 @@ impl Blocks {
 
     /// Takes the last operand, which is to be of that type.
     pub fn expect(&mut self, of: ValType) -> bool
-        ensures operands { ended result self.new.operands ≡ popped of self.old.operands }
+        ensures operands { ended result self.new.operands ≡ pop_expected of self.old.operands }
         ensures enclosing { self.new.enclosing ≡ self.old.enclosing }
     {
         match self.pop() {
@@ -105,7 +105,7 @@ impl Blocks {
 
     /// Takes the last operand, which is to be of that type, if there is one.
     pub fn expect_value(&mut self, of: Option<ValType>) -> bool
-        ensures operands { ended result self.new.operands ≡ taken (option_to_list of) self.old.operands }
+        ensures operands { ended result self.new.operands ≡ pop_operands (option_to_list of) self.old.operands }
         ensures enclosing { self.new.enclosing ≡ self.old.enclosing }
     {
         match of {
@@ -116,15 +116,15 @@ impl Blocks {
 
     /// Whether anything may stand in place of each operand.
     fn is_any(&self) -> bool
-        ensures { result ≡ (self.now.operands.marked && is_empty self.now.operands.types) }
+        ensures { result ≡ (self.now.operands.unreachable && is_empty self.now.operands.types) }
     {
-        self.innermost.marked && self.innermost.own == 0
+        self.innermost.unreachable && self.innermost.own == 0
     }
 
     /// Takes the last operands, which are to be of those types. In code that isn't reached it takes no
     /// longer than there are operands.
     pub fn expect_all(&mut self, of: &[ValType]) -> bool
-        ensures operands { ended result self.new.operands ≡ taken of.now self.old.operands }
+        ensures operands { ended result self.new.operands ≡ pop_operands of.now self.old.operands }
         ensures enclosing { self.new.enclosing ≡ self.old.enclosing }
     {
         let mut left = of.len();
@@ -138,8 +138,8 @@ impl Blocks {
     }
 
     /// Adds an operand of that type, if there is one.
-    pub fn give_value(&mut self, of: Option<ValType>) -> Result<(), AllocError>
-        ensures operands { OnOk result (self.new.operands ≡ given (option_to_list of) self.old.operands) }
+    pub fn push_value(&mut self, of: Option<ValType>) -> Result<(), AllocError>
+        ensures operands { OnOk result (self.new.operands ≡ push_operands (option_to_list of) self.old.operands) }
         ensures enclosing { self.new.enclosing ≡ self.old.enclosing }
     {
         match of {
@@ -149,8 +149,8 @@ impl Blocks {
     }
 
     /// Adds operands of those types.
-    pub fn give(&mut self, of: &[ValType]) -> Result<(), AllocError>
-        ensures operands { OnOk result (self.new.operands ≡ given of.now self.old.operands) }
+    pub fn push_all(&mut self, of: &[ValType]) -> Result<(), AllocError>
+        ensures operands { OnOk result (self.new.operands ≡ push_operands of.now self.old.operands) }
         ensures enclosing { self.new.enclosing ≡ self.old.enclosing }
     {
         for t in of {
@@ -167,19 +167,19 @@ impl Blocks {
         if !self.expect_all(params) {
             return Ok(false);
         }
-        self.give(results)?;
+        self.push_all(results)?;
         Ok(true)
     }
 
     /// Leaves anything in place of the operands, as an unconditional branch does.
-    pub fn give_any(&mut self)
-        ensures operands { self.new.operands ≡ any_operands }
+    pub fn become_unreachable(&mut self)
+        ensures operands { self.new.operands ≡ unreachable_operands }
         ensures enclosing { self.new.enclosing ≡ self.old.enclosing }
     {
         self.operands
             .truncate(self.operands.len() - self.innermost.own);
         self.innermost.own = 0;
-        self.innermost.marked = true;
+        self.innermost.unreachable = true;
     }
 
     /// Whether the innermost block has no operands.
@@ -212,7 +212,7 @@ impl Blocks {
         self.innermost = Frame {
             block: Block { kind, of },
             own: 0,
-            marked: false,
+            unreachable: false,
         };
         Ok(())
     }
@@ -237,7 +237,7 @@ impl Blocks {
         ensures operands { self.new.operands ≡ no_operands }
         ensures enclosing { self.new.enclosing ≡ self.old.enclosing }
     {
-        self.innermost.marked = false;
+        self.innermost.unreachable = false;
     }
 
     /// The type of the value that the innermost block leaves, if any.

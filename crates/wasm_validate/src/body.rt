@@ -82,7 +82,7 @@ fn end(blocks: &mut Blocks) -> Result<bool, AllocError>
     if !blocks.close() {
         return Ok(false);
     }
-    blocks.give_value(of)?;
+    blocks.push_value(of)?;
     Ok(true)
 }
 

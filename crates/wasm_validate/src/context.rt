@@ -141,7 +141,7 @@ pub fn branch(blocks: &mut Blocks, of: Option<ValType>) -> bool
     if !blocks.expect_value(of) {
         return false;
     }
-    blocks.give_any();
+    blocks.become_unreachable();
     true
 }
 

@@ -19,7 +19,7 @@ impl Context<'_> {
     {
         match instr {
             Instr::Unreachable => {
-                blocks.give_any();
+                blocks.become_unreachable();
                 Ok(true)
             }
             Instr::Nop | Instr::Fence => Ok(true),
@@ -70,7 +70,7 @@ impl Context<'_> {
         if !blocks.expect(ValType::I32) || !blocks.expect_value(of) {
             return Ok(false);
         }
-        blocks.give_value(of)?;
+        blocks.push_value(of)?;
         Ok(true)
     }
 

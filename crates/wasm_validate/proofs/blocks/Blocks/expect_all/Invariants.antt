@@ -1,11 +1,11 @@
 use Rattle.std.proofs.Common.{◌≡◌, ◌≤◌, length, take}
-use Rattle.wasm_ast.specs.Typing.{taken}
+use Rattle.wasm_ast.specs.Typing.{pop_operands}
 use Rattle.wasm_validate.proofs.blocks.Blocks.expect_all.Given as goal
 
 abbrev pub invariant-loop-left : goal.invariant-loop-left
 invariant-loop-left l = record {
   within : l.left ≤ length l.of;
-  operands : taken (take l.left l.of) l.self.operands ≡ taken l.of l.initial.self.operands;
+  operands : pop_operands (take l.left l.of) l.self.operands ≡ pop_operands l.of l.initial.self.operands;
   enclosing : l.self.enclosing ≡ l.initial.self.enclosing;
 }
 

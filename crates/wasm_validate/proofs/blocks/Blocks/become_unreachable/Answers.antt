@@ -2,7 +2,7 @@ use Rattle.std.proofs.Common.{◌≡◌, ◌-◌, length, reverse, take, drop, s
 use Rattle.wasm_validate.specs.Blocks.{OpenBlocks}
 use Rattle.wasm_validate.specs.View.{outer_of}
 use Rattle.wasm_validate.proofs.StackLemmas.{drop-reverse}
-use Rattle.wasm_validate.proofs.blocks.Blocks.give_any.Goals as goal
+use Rattle.wasm_validate.proofs.blocks.Blocks.become_unreachable.Goals as goal
 
 pub returns-clause-enclosing : goal.returns-clause-enclosing
 returns-clause-enclosing c =
