@@ -1,5 +1,5 @@
 -- What a thread stands for after a label was opened or closed, or a function has returned.
-use Rattle.std.proofs.Common.{◌≡◌, ℕ, suc, ◌+◌, ◌-◌, ◌<◌, ◌≤◌, List, [], ◌∷◌, ◌++◌, length, take, drop, refl, sym, ap, ap₂, ◌∙◌, arith, Bool, cond, sum_by, Option, Some}
+use Rattle.std.proofs.Common.{◌≡◌, ℕ, suc, ◌-◌, ◌<◌, ◌≤◌, List, [], ◌∷◌, ◌++◌, length, take, drop, refl, sym, ap, arith, Bool, cond, sum_by, Some}
 use Rattle.std.specs.Prelude.{slice_get}
 use Rattle.std.proofs.lemmas.List.{length-take}
 use Rattle.std.proofs.lemmas.List.Sums.{sum_by-cons}
@@ -8,18 +8,17 @@ use Rattle.wasm_ast.specs.declared.position.Position.{Position}
 use Rattle.wasm_ast.specs.Position.{remaining}
 use Rattle.guest_state.specs.declared.entries.OpenFrame.{OpenFrame}
 use Rattle.guest_state.specs.declared.entries.OpenLabel.{OpenLabel}
-use Rattle.guest_state.specs.GuestThread.{Frame, GuestThread, in_frame, label_count}
+use Rattle.guest_state.specs.GuestThread.{Frame, in_frame, label_count}
 use Rattle.guest_state.specs.Heights.{above, below}
 use Rattle.guest_state.specs.Module.{body_of}
-use Rattle.guest_state.specs.Snapshot.{Snapshot, first_height, first_open, frame_at, innermost_body, open_count, frames_of, height_of, labels_of, operands_of, placed, thread_at, thread_of}
+use Rattle.guest_state.specs.Snapshot.{Snapshot, first_height, first_open, frame_at, innermost_body, open_count, frames_of, height_of, labels_of, placed, thread_at, thread_of}
 use Rattle.guest_state.specs.Sound.{AreHeights, AreParted}
-use Rattle.guest_state.specs.Steps.{closed, opened, returned, with_operands}
+use Rattle.guest_state.specs.Steps.{closed, opened, returned}
 use Rattle.guest_state.proofs.HeightLemmas.{above-above, above-append, above-top, below-append, below-top, length-above, length-below}
 use Rattle.guest_state.proofs.SnapshotLemmas.{first_is, heights_low, heights_to, heights_top, parted_placed, with_operands_is}
 
 module _ (m : Module) (f : OpenFrame) (fs : List OpenFrame) (l : OpenLabel) (ls : List OpenLabel) (vs globals : List ℕ) (main full : Bool)
-  (start : f.labels_start ≤ length ls) where
-
+    (start : f.labels_start ≤ length ls) where
   -- with the label and without it
   abbrev inside : Snapshot
   inside = record { values = vs; labels = l ∷ ls; frames = f ∷ fs; globals = globals; main = main; full = full }
@@ -107,8 +106,14 @@ labels_count m [] height vs ls parted = sym parted.1
 labels_count m (f ∷ fs) height vs ls parted =
     let start : f.labels_start ≤ length ls = parted.1 in
     let rest = labels_count m fs f.locals_start (below f.locals_start vs) (below f.labels_start ls) parted.3 in
-    omega (arith, rest, length-labels_of m f.function f.locals_end vs (above f.labels_start ls), length-above ls f.labels_start start, length-below ls f.labels_start start,
-    sum_by-cons {X = Frame} (λ g. length g.labels) (frame_at m f f.place vs ls) (frames_of m fs (below f.locals_start vs) (below f.labels_start ls)))
+    omega (
+      arith,
+      rest,
+      length-labels_of m f.function f.locals_end vs (above f.labels_start ls),
+      length-above ls f.labels_start start,
+      length-below ls f.labels_start start,
+      sum_by-cons {X = Frame} (λ g. length g.labels) (frame_at m f f.place vs ls) (frames_of m fs (below f.locals_start vs) (below f.labels_start ls)),
+    )
 
 pub label_count_at : (m : Module) (place : Position) (s : Snapshot) → AreParted s.frames (length s.values) s.labels → label_count (thread_at m place s) ≡ length s.labels
 label_count_at m place s parted =

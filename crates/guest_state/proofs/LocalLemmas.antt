@@ -1,5 +1,5 @@
 -- The locals of the innermost frame in the stack of values.
-use Rattle.std.proofs.Common.{◌≡◌, ℕ, suc, ◌+◌, ◌-◌, ◌<◌, ◌≤◌, List, [], ◌∷◌, ◌++◌, length, take, drop, reverse, get_or, Some, refl, sym, ap, ap₂, ◌∙◌, arith}
+use Rattle.std.proofs.Common.{◌≡◌, ℕ, ◌+◌, ◌-◌, ◌<◌, ◌≤◌, List, [], ◌∷◌, length, take, drop, reverse, get_or, Some, refl, sym, ap, ap₂, ◌∙◌, arith}
 use Rattle.std.specs.Prelude.{slice_get}
 use Rattle.std.proofs.Math.ListN.{set}
 use Rattle.std.proofs.Math.Seq.{take-length, take-set-lt}
@@ -13,11 +13,11 @@ use Rattle.guest_state.specs.declared.entries.OpenLabel.{OpenLabel}
 use Rattle.guest_state.specs.GuestThread.{first_changed, in_frame}
 use Rattle.guest_state.specs.Heights.{above, below}
 use Rattle.guest_state.specs.Module.{body_of}
-use Rattle.guest_state.specs.Snapshot.{Snapshot, first_height, first_locals, frames_of, height_of, labels_of, locals_of, placed, thread_at, thread_of}
+use Rattle.guest_state.specs.Snapshot.{Snapshot, first_locals, frames_of, height_of, labels_of, locals_of, placed, thread_at}
 use Rattle.guest_state.specs.Sound.{AreHeights, AreParted, first_start}
 use Rattle.guest_state.specs.Steps.{with_local}
 use Rattle.guest_state.proofs.HeightLemmas.{below-top, length-above, length-below, set-stack}
-use Rattle.guest_state.proofs.SnapshotLemmas.{first_is, heights_low, heights_top, parted_placed}
+use Rattle.guest_state.proofs.SnapshotLemmas.{heights_low, heights_top}
 
 -- a stack of values in which locals stand between two heights
 module _ (vs : List ℕ) (low high i : ℕ) (top : high ≤ length vs) (within : low + i < high) where
@@ -119,8 +119,12 @@ with_local_frames m (f ∷ fs) vs ls i x parted few =
     let operands : above (height_of f.locals_end own) values ≡ above (height_of f.locals_end own) vs =
     ap (above (height_of f.locals_end own)) (sym (below-top values (length vs) (sym size))) ∙ above-set vs f.locals_start f.locals_end i w.0 w.1 x (height_of f.locals_end own) (length vs) low top (omega arith)
     ∙ ap (above (height_of f.locals_end own)) all in
-    rw (locals-set vs f.locals_start f.locals_end i w.0 w.1 x, labels_of-set vs f.locals_start f.locals_end i w.0 w.1 x (body_of m f.function) (length vs) own parted.2 (omega arith), operands,
-    below-set vs f.locals_start f.locals_end i w.0 w.1 x) refl
+    rw (
+      locals-set vs f.locals_start f.locals_end i w.0 w.1 x,
+      labels_of-set vs f.locals_start f.locals_end i w.0 w.1 x (body_of m f.function) (length vs) own parted.2 (omega arith),
+      operands,
+      below-set vs f.locals_start f.locals_end i w.0 w.1 x,
+    ) refl
 
 pub with_local_at : (m : Module) (place : Position) (s : Snapshot) (i x : ℕ) → AreParted s.frames (length s.values) s.labels → i < length (locals_of s)
     → thread_at m place (record s { values = set s.values (length s.values - 1 - (first_start s.frames + i)) x }) ≡ in_frame (with_local i x) (thread_at m place s)

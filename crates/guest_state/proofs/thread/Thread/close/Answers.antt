@@ -1,7 +1,6 @@
-use Rattle.std.proofs.Common.{◌≡◌, ◌≤◌, ◌<◌, ◌-◌, ℕ, ◌∷◌, List, drop, length, ap, arith}
+use Rattle.std.proofs.Common.{◌≡◌, ◌<◌, ◌-◌, ◌∷◌, drop, length, ap, arith}
 use Rattle.guest_state.specs.Heights.{below}
 use Rattle.guest_state.specs.Sound.{AreParted}
-use Rattle.guest_state.specs.declared.entries.OpenLabel.{OpenLabel}
 use Rattle.guest_state.specs.Snapshot.{Snapshot, first_open, open_count}
 use Rattle.guest_state.proofs.HeightLemmas.{below-last}
 use Rattle.guest_state.proofs.LabelLemmas.{closed_law, first_got, parted_closed}

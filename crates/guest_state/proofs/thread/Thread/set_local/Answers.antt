@@ -1,6 +1,6 @@
-use Rattle.std.proofs.Common.{◌≡◌, ◌+◌, ◌<◌, length, ap, sym, ◌∙◌, arith}
+use Rattle.std.proofs.Common.{◌<◌, length}
 use Rattle.guest_state.specs.Snapshot.{Snapshot, locals_of}
-use Rattle.guest_state.proofs.LocalLemmas.{local_place, local_value, parted_set, with_local_at}
+use Rattle.guest_state.proofs.LocalLemmas.{local_place, with_local_at}
 use Rattle.guest_state.proofs.thread.Thread.set_local.Goals as goal
 
 pub returns-clause-value : goal.returns-clause-value
