@@ -1,0 +1,6 @@
+pub mod Entries
+pub mod Reading
+pub mod Image
+pub mod Answers
+pub mod Steps
+pub mod Written

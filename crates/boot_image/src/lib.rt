@@ -1,0 +1,14 @@
+//! Boot images: a file tree as bytes (the format WXI1).
+#![tactic(auto)]
+
+mod fault;
+mod found;
+mod paths;
+mod read;
+mod reading;
+mod write;
+
+pub use fault::ImageFault;
+pub use paths::plain_parts;
+pub use read::{make_directory, make_file, read_image};
+pub use write::write_image;

@@ -1,0 +1,127 @@
+// Trees from images.
+ghost use Rattle.boot_image.specs.Entries as format;
+ghost use Rattle.boot_image.specs.Image.{Image, Remains, with_entry};
+ghost use Rattle.boot_image.specs.Answers.{IsLeft, Means};
+ghost use Rattle.boot_image.specs.Reading.{seen};
+ghost use Rattle.boot_image.specs.Steps.{IsBytes, Goes, Makes};
+
+use crate::fault::ImageFault;
+use crate::paths::plain_parts;
+use crate::reading::{Item, next};
+use byte_cursor::Cursor;
+use file_tree::Tree;
+use std::alloc::Global;
+use wx_types::Refusal;
+
+/// The number of the root.
+const ROOT: u32 = 1;
+
+/// Makes a directory of this path. `NotImage` comes exactly where the path isn't one that an image may have or the tree
+/// refuses it.
+pub fn make_directory(alloc: Global, tree: &mut Tree, path: &[u8]) -> Result<(), ImageFault>
+    ensures { IsLeft (with_entry tree.old (record { path = path.now; content = format.Directory })) tree.new result }
+{
+    let Some(parts) = plain_parts(path) else {
+        return Err(ImageFault::NotImage);
+    };
+    match tree.mkdir(alloc, ROOT, &parts) {
+        Ok(_) => Ok(()),
+        Err(Refusal::Errno(_)) => Err(ImageFault::NotImage),
+        Err(Refusal::Memory) => Err(ImageFault::Memory),
+    }
+}
+
+/// Makes a file of this path with these bytes. `NotImage` comes exactly where the path isn't one that an image may have or
+/// the tree refuses it or them.
+pub fn make_file(
+    alloc: Global,
+    tree: &mut Tree,
+    path: &[u8],
+    bytes: &[u8],
+) -> Result<(), ImageFault>
+    ensures { IsLeft (with_entry tree.old (record { path = path.now; content = format.File bytes.now })) tree.new result }
+{
+    let Some(parts) = plain_parts(path) else {
+        return Err(ImageFault::NotImage);
+    };
+    let node = match tree.create(alloc, ROOT, &parts) {
+        Ok(node) => node,
+        Err(Refusal::Errno(_)) => return Err(ImageFault::NotImage),
+        Err(Refusal::Memory) => return Err(ImageFault::Memory),
+    };
+    match tree.write_at(node, 0, bytes) {
+        Ok(()) => Ok(()),
+        Err(Refusal::Errno(_)) => Err(ImageFault::NotImage),
+        Err(Refusal::Memory) => Err(ImageFault::Memory),
+    }
+}
+
+/// What a step over an image came to.
+#[derive(Clone, Copy, Debug)]
+enum Step {
+    /// An entry was read, and the tree has what it gives.
+    Entry,
+    /// The end of the entries was read.
+    Last,
+}
+
+// the tree with what an item gives
+fn make(alloc: Global, tree: &mut Tree, item: Item<'_>) -> Result<Step, ImageFault>
+    ensures { Makes (seen item.entry) result tree.old tree.new }
+{
+    let made = match item {
+        Item::Last => return Ok(Step::Last),
+        Item::Directory(path) => make_directory(alloc, tree, path),
+        Item::File(path, bytes) => make_file(alloc, tree, path, bytes),
+        Item::Other => return Err(ImageFault::NotImage),
+    };
+    match made {
+        Ok(()) => Ok(Step::Entry),
+        Err(fault) => Err(fault),
+    }
+}
+
+// reads what stands next, and gives the tree what it says
+fn take_next(alloc: Global, tree: &mut Tree, cursor: &mut Cursor<'_>) -> Result<Step, ImageFault>
+    requires { IsBytes cursor.old }
+    ensures { Goes result cursor.old tree.old cursor.new tree.new }
+{
+    match next(cursor) {
+        Ok(item) => make(alloc, tree, item),
+        Err(_) => Err(ImageFault::NotImage),
+    }
+}
+
+// the tree with what all entries give, from the bytes behind the magic
+fn fill(alloc: Global, tree: Tree, bytes: &[u8]) -> Result<Tree, ImageFault>
+    ensures { Means (Remains bytes.now tree) result }
+{
+    let mut tree = tree;
+    let mut cursor = Cursor::new(bytes);
+    'entries: loop {
+        match take_next(alloc, &mut tree, &mut cursor) {
+            Ok(Step::Entry) => {}
+            Ok(Step::Last) => break 'entries,
+            Err(fault) => return Err(fault),
+        }
+    }
+    if cursor.is_empty() {
+        Ok(tree)
+    } else {
+        Err(ImageFault::NotImage)
+    }
+}
+
+/// The tree of an image. `NotImage` comes exactly where the bytes are no image, and `Memory` for want of memory. The bytes are
+/// read once, and a file's bytes are copied once.
+pub fn read_image(alloc: Global, bytes: &[u8]) -> Result<Tree, ImageFault>
+    ensures { Means (Image bytes.now) result }
+{
+    match bytes {
+        [b'W', b'X', b'I', b'1', rest @ ..] => match Tree::new(alloc) {
+            Ok(tree) => fill(alloc, tree, rest),
+            Err(_) => Err(ImageFault::Memory),
+        },
+        _ => Err(ImageFault::NotImage),
+    }
+}
