@@ -1,0 +1,15 @@
+use Rattle.std.proofs.Common.{◌∷◌, List, ℕ, Option, sym, ap, ◌∙◌}
+use Rattle.std.specs.Option.{option_copied}
+use Rattle.pack_list.specs.Lines.{said}
+use Rattle.pack_list.proofs.Pieces.{words_cut, words_behind, too_many}
+use Rattle.pack_list.proofs.lines.third.Goals as goal
+
+pub returns-in-None : goal.returns-in-None
+returns-in-None c =
+    let cut = words_cut c.args.rest.now c.cut.result.0.now (option_copied c.cut.result.1) c.cut.ensures in
+    c.file_line.ensures ∙ sym (ap (λ (more : List (List ℕ)). said (c.args.kind.now ∷ c.args.path.now ∷ more)) (rw c.in-None.is at cut))
+
+pub returns-in-Some : goal.returns-in-Some
+returns-in-Some c =
+    let cut = words_cut c.args.rest.now c.cut.result.0.now (option_copied c.cut.result.1) c.cut.ensures in
+    sym (ap (λ (more : List (List ℕ)). said (c.args.kind.now ∷ c.args.path.now ∷ more)) (rw c.in-Some.is at cut) ∙ too_many c.args.kind.now c.args.path.now c.cut.result.0.now c.in-Some.field-0.now)

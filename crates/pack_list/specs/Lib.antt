@@ -1,0 +1,5 @@
+pub mod Lines
+pub mod Cuts
+pub mod Judging
+pub mod Answers
+pub mod Made
