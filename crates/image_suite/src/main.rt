@@ -91,7 +91,12 @@ fn put_part(bytes: &mut Vec<u8>, part: &str) -> Result<()> {
         };
         let front = hex::decode(alloc, front)?;
         let rest = hex::decode(alloc, rest)?;
-        return put_numbered(bytes, front.as_slice(), count.parse::<u32>()?, rest.as_slice());
+        return put_numbered(
+            bytes,
+            front.as_slice(),
+            count.parse::<u32>()?,
+            rest.as_slice(),
+        );
     }
     let (digits, count) = match part.split_once('*') {
         Some((digits, count)) => (digits, count.parse::<u32>()?),

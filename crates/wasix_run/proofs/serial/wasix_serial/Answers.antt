@@ -111,4 +111,4 @@ returns-clause-complete_pack g c = λ files image held packs shelf out err.
     let sound : c.serve-reason.result.reason ≢ ShelfFault = λ e. shelf (c.serve-reason.ensures.shelf_fault e) in
     subst (λ (r : Reason). (r ≡ Done) ⊎ (r ≡ Memory)) (sym c.make_ended.ensures.reason)
     (packed_or_memory (pack_verdict files packs.list) (told_file (g.H.Shelf.held c.serve-reason.new.shelf) packs.out) image c.serve-reason.result.reason c.report-reason.result c.report-reason.ensures.either unwritten
-      (c.serve-reason.ensures.packed files packs.list packs.out held packs.command) packs.judged sound)
+    (c.serve-reason.ensures.packed files packs.list packs.out held packs.command) packs.judged sound)
