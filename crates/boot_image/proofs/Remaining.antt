@@ -12,7 +12,11 @@ use Rattle.boot_image.specs.declared.read.Step.{Step}
 use Rattle.boot_image.specs.declared.read.Step.TheVariants.{Entry as EntryStep, Last as LastStep}
 use Rattle.boot_image.specs.declared.fault.ImageFault.{ImageFault}
 use Rattle.boot_image.specs.declared.fault.ImageFault.TheVariants.{NotImage, Memory}
-use Rattle.boot_image.specs.Image.{Remains, with_entry, with_entries}
+use Rattle.std.proofs.Common.{drop}
+use Rattle.file_tree.specs.FileTree.{only_root}
+use Rattle.boot_image.specs.Entries.{magic}
+use Rattle.boot_image.specs.Answers.{Means}
+use Rattle.boot_image.specs.Image.{Image, Remains, with_entry, with_entries}
 use Rattle.boot_image.specs.Steps.{IsBytes, SameTrees, GivesNone, Goes, Makes}
 use Rattle.boot_image.proofs.Items.{next_takes, next_again}
 
@@ -151,3 +155,24 @@ goes bytes rest before after (One entry) (Err Memory) fits e made = tt
 goes bytes rest before after Other (Ok step) fits e made = absurd made
 goes bytes rest before after Other (Err NotImage) fits e made = none_where_other bytes rest before e
 goes bytes rest before after Other (Err Memory) fits e made = absurd made
+
+-- ---- the whole
+
+module _ (whole : List ℕ) (first : FileTree) (bytes : List ℕ) (before : FileTree) (to : (tree : FileTree) → Remains whole first tree → Remains bytes before tree) (from : (tree : FileTree) → Remains bytes before tree → Remains whole first tree) where
+  pub fault_means : (fault : ImageFault) (rest : List ℕ) (after : FileTree) → Goes (Err fault) bytes before rest after → Means (Remains whole first) (Err fault)
+  fault_means NotImage rest after goes = λ tree remains. goes tree (to tree remains)
+  fault_means Memory rest after goes = tt
+
+  pub last_means : (rest : List ℕ) (after : FileTree) → bytes ≡ 0 ∷ rest → after ≡ before → rest ≡ [] → Remains whole first after
+  last_means rest after is same none = subst (λ (t : FileTree). Remains whole first t) (sym same) (from before (end_gives bytes rest before is none))
+
+  pub more_means : (rest : List ℕ) → bytes ≡ 0 ∷ rest → (rest ≡ [] → ⊥) → (tree : FileTree) → Remains whole first tree → ⊥
+  more_means rest is more tree remains = none_behind_end bytes rest before is more tree (to tree remains)
+
+-- the bytes behind the magic
+pub image_means : (bytes rest : List ℕ) (tree : FileTree) (answer : Result FileTree ImageFault) → bytes ≡ magic ++ rest → tree ≡ only_root → Means (Remains rest tree) answer → Means (Image bytes) answer
+image_means bytes rest tree (Ok after) is root means =
+    record { entries = means.entries; spelled = record { fit = means.fit; are = is ∙ ap (λ (b : List ℕ). magic ++ b) means.are }; gives = ap (λ t. with_entries t means.entries) (sym root) ∙ means.gives }
+image_means bytes rest tree (Err NotImage) is root means =
+    λ after image. means after (record { entries = image.entries; fit = image.spelled.fit; are = ap (drop 4) (sym is ∙ image.spelled.are); gives = ap (λ t. with_entries t image.entries) root ∙ image.gives })
+image_means bytes rest tree (Err Memory) is root means = tt

@@ -4,8 +4,8 @@ ghost use Rattle.boot_image.specs.Image.{is_plain, plain_parts};
 
 use path_walk::{Parts, split};
 
-// the bytes behind this front, where they begin with it
-fn without<'a>(bytes: &'a [u8], front: &[u8]) -> Option<&'a [u8]>
+/// The bytes behind this front, where they begin with it.
+pub(crate) fn without<'a>(bytes: &'a [u8], front: &[u8]) -> Option<&'a [u8]>
     ensures { MatchOption result ((rest : List ℕ) → bytes.now ≡ front.now ++ rest → ⊥) (λ rest. bytes.now ≡ front.now ++ rest.now) }
 {
     match bytes.strip_prefix(front) {

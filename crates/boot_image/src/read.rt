@@ -6,7 +6,7 @@ ghost use Rattle.boot_image.specs.Reading.{seen};
 ghost use Rattle.boot_image.specs.Steps.{IsBytes, Goes, Makes};
 
 use crate::fault::ImageFault;
-use crate::paths::plain_parts;
+use crate::paths::{plain_parts, without};
 use crate::reading::{Item, next};
 use byte_cursor::Cursor;
 use file_tree::Tree;
@@ -117,11 +117,11 @@ fn fill(alloc: Global, tree: Tree, bytes: &[u8]) -> Result<Tree, ImageFault>
 pub fn read_image(alloc: Global, bytes: &[u8]) -> Result<Tree, ImageFault>
     ensures { Means (Image bytes.now) result }
 {
-    match bytes {
-        [b'W', b'X', b'I', b'1', rest @ ..] => match Tree::new(alloc) {
-            Ok(tree) => fill(alloc, tree, rest),
-            Err(_) => Err(ImageFault::Memory),
-        },
-        _ => Err(ImageFault::NotImage),
+    let Some(rest) = without(bytes, b"WXI1") else {
+        return Err(ImageFault::NotImage);
+    };
+    match Tree::new(alloc) {
+        Ok(tree) => fill(alloc, tree, rest),
+        Err(_) => Err(ImageFault::Memory),
     }
 }

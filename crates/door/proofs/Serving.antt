@@ -119,6 +119,6 @@ module _ {O Q A : Type 0} (serves : O → Q → A → O → Type 0) (fits : List
           refl,
           refl,
           (λ o opened. let first : o ≡ opening = k.opened o opened in subst (λ (z : O). HasServed serves fits z v.numbers v.turns q a ts) (sym first)
-              record { event = e; earlier = es; legal = (follows, r.legal); asked = refl; answered = refl; before = refl; added = refl; list = listed }),
+              record { event = e; earlier = es; legal = (follows, r.legal); asked = refl; answered = refl; bears = (ns, number); before = refl; added = refl; list = listed }),
         ),
       )

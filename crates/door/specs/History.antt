@@ -69,6 +69,8 @@ module _ {O Q A : Type 0} where
       pub legal : IsHistory (event ∷ earlier)
       pub asked : event.turn.ask ≡ ask
       pub answered : event.turn.answer ≡ answer
+      -- the turn bears the pass's own number
+      pub bears : (others : List ℕ) × (numbers ≡ event.turn.number ∷ others)
       pub before : event.before ≡ old
       pub added : turns ≡ old ++ event.turn ∷ []
       pub list : AreTurnsOf (event ∷ earlier) numbers turns

@@ -63,7 +63,12 @@ impl<O: Object> Door<O> {
 
     /// Waits for the pass's turn and has the object serve the ask, which fits the turns that the pass has had. The turn is
     /// then the last of the pass's list, also where the object found no memory.
-    pub fn enter<R: Wait>(&self, rt: &R, pass: &mut Pass<O>, ask: &O::Ask) -> Answer<O>
+    pub fn enter<R: Wait>(
+        &self,
+        rt: &R,
+        pass: &mut Pass<O>,
+        ask: &O::Ask,
+    ) -> Result<O::Served, AllocError>
         requires pass { IsPassOf self.now pass.old }
         requires fits { O.fits (turns_of pass.old) ask.now }
         ensures pass { IsPassOf self.now pass.new }

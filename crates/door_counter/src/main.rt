@@ -15,5 +15,9 @@ fn main(rt: HostRuntime) -> io::Result<()> {
     let Ok((first, second, total)) = threads::three_and_four(&rt, rt.alloc()) else {
         return Err(Error::from(ErrorKind::OutOfMemory));
     };
-    println!(rt; "{first} {second} {total}")
+    println!(rt; "{first} {second} {total}")?;
+    let Ok((failed, five)) = threads::five_after_a_failure(&rt, rt.alloc()) else {
+        return Err(Error::from(ErrorKind::OutOfMemory));
+    };
+    println!(rt; "{failed} {five}")
 }

@@ -72,3 +72,12 @@ pub fn three_and_four<R: Wait>(rt: &R, alloc: Global) -> Result<(u64, u64, u64),
     door.join(&mut pass, second);
     Ok((first, both, door.close(rt, pass).count))
 }
+
+/// Whether the counter found no memory where it was asked to add nothing, and its answer to 5 after that.
+pub fn five_after_a_failure<R: Wait>(rt: &R, alloc: Global) -> Result<(bool, u64), AllocError> {
+    let (door, mut pass) = Door::new(alloc, Counter { count: 0 })?;
+    let failed = door.enter(rt, &mut pass, &0).is_err();
+    let five = door.enter(rt, &mut pass, &5)?;
+    drop(door.close(rt, pass));
+    Ok((failed, five))
+}

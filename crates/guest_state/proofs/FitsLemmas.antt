@@ -1,5 +1,5 @@
 -- What a typed module's functions and globals give a thread.
-use Rattle.std.proofs.Common.{◌≡◌, ℕ, zero, suc, ◌+◌, ◌%◌, ◌^◌, ◌<◌, Bool, true, false, ◌&&◌, List, [], ◌∷◌, ◌++◌, length, map, replicate, Option, Some, None, Ok, Err, cond, option_to_list, refl, sym, ap, subst, ◌∙◌, arith}
+use Rattle.std.proofs.Common.{◌≡◌, ℕ, zero, suc, ◌+◌, Bool, true, false, ◌&&◌, List, [], ◌∷◌, ◌++◌, length, map, replicate, Some, None, Ok, Err, cond, refl, subst}
 use Rattle.std.specs.Prelude.{slice_get, option_and_then}
 use Rattle.std.proofs.Math.Nat.{mod-lt}
 use Rattle.std.proofs.Math.Pow.{pow_pos}
@@ -14,10 +14,10 @@ use Rattle.wasm_ast.specs.Locals.{total}
 use Rattle.wasm_ast.specs.Typing.{Context, is_body}
 use Rattle.wasm_ast.specs.TypingModule.{are_functions, context_of, globals_of, in_function, is_declared, is_defined, is_function_of, is_typed}
 use Rattle.int_ops.specs.declared.trap.Cause.TheVariants.{StackFull}
-use Rattle.guest_state.specs.GuestThread.{Frame, GuestThread}
-use Rattle.guest_state.specs.Module.{first_globals, first_value, further_locals, result_count, type_bits, type_of}
+use Rattle.guest_state.specs.GuestThread.{GuestThread}
+use Rattle.guest_state.specs.Module.{first_globals, first_value, further_locals, type_bits, type_of}
 use Rattle.guest_state.specs.Steps.{entered, has_room, started, with_frame}
-use Rattle.guest_state.specs.Fits.{Accepts, Fits, FitsFrame, HaveTypes, HasType, function_context, group_types, local_types, result_of}
+use Rattle.guest_state.specs.Fits.{Accepts, Fits, FitsFrame, HaveTypes, HasType, group_types, result_of}
 
 both : (a b : Bool) → (a && b) ≡ true → (a ≡ true) × (b ≡ true)
 both true true e = (refl, refl)

@@ -1,3 +1,5 @@
 pub mod FitsLemmas
 pub mod HeightLemmas
+pub mod LabelLemmas
+pub mod LocalLemmas
 pub mod SnapshotLemmas

@@ -42,8 +42,7 @@ labels_of-same body low high vs ws (l ∷ ls) h v w same =
 
 -- A frame whose innermost operands are others. The frames below it are the same.
 module _ (m : Module) (f : OpenFrame) (vs : List ℕ) (ls : List OpenLabel)
-  (order : f.locals_start ≤ f.locals_end) (heights : AreHeights f.locals_end (length vs) (above f.labels_start ls)) where
-
+    (order : f.locals_start ≤ f.locals_end) (heights : AreHeights f.locals_end (length vs) (above f.labels_start ls)) where
   abbrev pub own : List OpenLabel
   own = above f.labels_start ls
 
@@ -79,7 +78,7 @@ pub entered_frame : (m : Module) (n start end first : ℕ) (returns : Bool) (pla
     → cond returns 1 0 ≡ result_count (type_of m n)
     → start ≡ length vs → end ≡ length (reverse (arguments ++ replicate (further_locals m n) 0) ++ vs) → first ≡ length ls
     → frame_at m (record { function = n; returns = returns; locals_start = start; locals_end = end; labels_start = first; place = place }) place
-      (reverse (arguments ++ replicate (further_locals m n) 0) ++ vs) ls ≡ entered m n arguments
+    (reverse (arguments ++ replicate (further_locals m n) 0) ++ vs) ls ≡ entered m n arguments
 entered_frame m n start end first returns place arguments vs ls p r s e f =
     let xs = arguments ++ replicate (further_locals m n) 0 in
     let values = reverse xs ++ vs in
@@ -94,7 +93,7 @@ pub entered_frames : (m : Module) (n start end first : ℕ) (returns : Bool) (pl
     → cond returns 1 0 ≡ result_count (type_of m n)
     → start ≡ length vs → end ≡ length (reverse (arguments ++ replicate (further_locals m n) 0) ++ vs) → first ≡ length ls
     → frames_of m ((record { function = n; returns = returns; locals_start = start; locals_end = end; labels_start = first; place = place }) ∷ fs)
-      (reverse (arguments ++ replicate (further_locals m n) 0) ++ vs) ls ≡ entered m n arguments ∷ frames_of m fs vs ls
+    (reverse (arguments ++ replicate (further_locals m n) 0) ++ vs) ls ≡ entered m n arguments ∷ frames_of m fs vs ls
 entered_frames m n start end first returns place arguments vs ls fs p r s e f =
     let xs = reverse (arguments ++ replicate (further_locals m n) 0) in
     let values : below start (xs ++ vs) ≡ vs = below-append xs vs start (omega arith) ∙ below-top vs start s in
@@ -135,8 +134,17 @@ frames_values m (f ∷ fs) vs ls parted =
     let operands = length-above vs level top in
     let end_size = length-below vs f.locals_end (omega arith) in
     let locals = length-above (below f.locals_end vs) f.locals_start (omega arith) in
-    omega (arith, rest_size, rest, labels, operands, end_size, locals, length-reverse (above f.locals_start (below f.locals_end vs)),
-    sum_by-cons {X = Frame} frame_values (frame_at m f f.place vs ls) (frames_of m fs (below f.locals_start vs) (below f.labels_start ls)))
+    omega (
+      arith,
+      rest_size,
+      rest,
+      labels,
+      operands,
+      end_size,
+      locals,
+      length-reverse (above f.locals_start (below f.locals_end vs)),
+      sum_by-cons {X = Frame} frame_values (frame_at m f f.place vs ls) (frames_of m fs (below f.locals_start vs) (below f.labels_start ls)),
+    )
 
 -- whether there is room, by the lengths of the stacks
 pub has_room_is : (m : Module) (s : Snapshot) (more : ℕ) → AreParted s.frames (length s.values) s.labels

@@ -1,5 +1,5 @@
 -- What the code keeps of a thread, and the thread that it stands for. Nothing else knows of positions and heights.
-use Rattle.std.specs.Prelude.{ℕ, Bool, List, [], ◌∷◌, reverse, if◌then◌else◌}
+use Rattle.std.specs.Prelude.{ℕ, Bool, List, [], ◌∷◌, length, reverse, if◌then◌else◌}
 use Rattle.wasm_ast.specs.declared.module.Module.{Module}
 use Rattle.wasm_ast.specs.declared.position.Position.{Position}
 use Rattle.wasm_ast.specs.Position.{remaining}
@@ -76,3 +76,26 @@ first_height (f ∷ fs) labels = height_of f.locals_end (above f.labels_start la
 
 abbrev pub operands_of : Snapshot → List ℕ
 operands_of s = above (first_height s.frames s.labels) s.values
+
+-- the instructions of the innermost function, and how many blocks are open in it
+abbrev pub first_function : List OpenFrame → ℕ
+first_function [] = 0
+first_function (f ∷ fs) = f.function
+
+abbrev pub innermost_body : Module → Snapshot → Sequence
+innermost_body m s = body_of m (first_function s.frames)
+
+abbrev pub first_open : List OpenFrame → List OpenLabel → ℕ
+first_open [] labels = 0
+first_open (f ∷ fs) labels = length (above f.labels_start labels)
+
+abbrev pub open_count : Snapshot → ℕ
+open_count s = first_open s.frames s.labels
+
+-- its locals
+abbrev pub first_locals : List OpenFrame → List ℕ → List ℕ
+first_locals [] values = []
+first_locals (f ∷ fs) values = reverse (above f.locals_start (below f.locals_end values))
+
+abbrev pub locals_of : Snapshot → List ℕ
+locals_of s = first_locals s.frames s.values

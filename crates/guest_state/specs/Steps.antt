@@ -7,7 +7,7 @@ use Rattle.wasm_ast.specs.declared.instr.Instr.TheVariants as instr
 use Rattle.wasm_ast.specs.declared.module.Module.{Module}
 use Rattle.wasm_ast.specs.Position.{behind}
 use Rattle.wasm_ast.specs.Sequence.{Sequence, Empty, Plain}
-use Rattle.guest_state.specs.GuestThread.{Label, Frame, GuestThread, value_count, label_count}
+use Rattle.guest_state.specs.GuestThread.{Label, Frame, GuestThread, value_count}
 use Rattle.guest_state.specs.Module.{body_of, type_of, param_count, result_count, further_locals, first_globals}
 
 -- the bounds of a thread
@@ -84,6 +84,7 @@ called m n thread =
   where
     count : ℕ
     count = param_count (type_of m n)
+
     with_call : List Frame → List Frame
     with_call [] = []
     with_call (f ∷ fs) = entered m n (reverse (take count f.operands)) ∷ record f { operands = drop count f.operands } ∷ fs

@@ -84,6 +84,16 @@ impl<T: Copy> Stack<T> {
         self.items[height]
     }
 
+    /// The sum of two numbers, which is below the height.
+    #[inline(always)]
+    pub fn sum(&self, base: usize, offset: usize) -> usize
+        requires { base + offset < length self.now.items }
+        ensures { result ≡ base + offset }
+    {
+        prove!(self.height <= self.items.len());
+        base + offset
+    }
+
     /// So many elements from a height on, the first pushed first.
     pub fn range(&self, low: usize, count: usize) -> &[T]
         requires { low + count ≤ length self.now.items }

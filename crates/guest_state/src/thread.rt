@@ -45,8 +45,8 @@ pub struct Thread {
 
 impl Model for Thread {
     ghost use Rattle.wasm_ast.specs.TypingModule.{is_typed};
-ghost use Rattle.guest_state.specs.Fits.{Accepts, Fits, result_of};
-ghost use Rattle.guest_state.specs.Snapshot.{Snapshot};
+    ghost use Rattle.guest_state.specs.Fits.{Accepts, Fits, result_of};
+    ghost use Rattle.guest_state.specs.Snapshot.{Snapshot};
     ghost use Rattle.guest_state.specs.Sound.{IsSound};
 
     ghost Value = { Snapshot };
@@ -120,7 +120,8 @@ impl Thread {
         ensures { self.new ≡ record self.old { frames = placed place self.old.frames } }
     {
         let frame = self.innermost();
-        self.frames.set(self.frames.len() - 1, OpenFrame { place, ..frame });
+        self.frames
+            .set(self.frames.len() - 1, OpenFrame { place, ..frame });
     }
 
     /// Whether it was started as a main thread, whose end ends its process. A copy has the same answer.

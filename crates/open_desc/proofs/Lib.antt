@@ -1,4 +1,5 @@
 pub mod CountLemmas
+pub mod KindLemmas
 pub mod ProcessLemmas
 pub mod ReferenceLemmas
 pub mod SlabLemmas

@@ -1,4 +1,7 @@
 pub mod Codes
 pub mod Descriptions
 pub mod Ends
+pub mod Offsets
 pub mod Processes
+pub mod Reading
+pub mod Writing

@@ -1,5 +1,5 @@
 // Descriptions in a slab, with counts of the open ends of pipes.
-ghost use Rattle.std.specs.Prelude.{◌≡◌, ◌<◌, ◌≤◌, ◌+◌, ◌^◌, ◌↔◌, ◌⊎◌, ◌==◌, None, IsSome, IfSome, IsSomeAnd, IfOk, IfErr, OnOk, OnErr, option_copied};
+ghost use Rattle.std.specs.Prelude.{◌≡◌, ◌<◌, ◌≤◌, ◌+◌, ◌^◌, ◌↔◌, ◌⊎◌, ◌==◌, None, IsSome, IfSome, IsSomeAnd, IsTrue, IfOk, IfErr, OnOk, OnErr, option_copied};
 ghost use Rattle.std.specs.FinMap.{empty, get as opened_at, remove, len};
 ghost use Rattle.open_desc.specs.Processes.{CountsStay};
 ghost use Rattle.open_desc.specs.Descriptions.{description_of, references_of, with_opened, after_open, after_share, released_kind, after_release, changed, with_flags, end_left};
@@ -126,6 +126,23 @@ impl Descs {
         );
     }
 
+    /// Whether a number is left for one more description.
+    pub fn has_number(&self) -> bool
+        ensures { IsTrue result ↔ (self.now.next + 1 < 2 ^ 64) }
+    {
+        self.next < u64::MAX
+    }
+
+    /// Whether one more reference to a description can be counted.
+    pub fn can_share(&self, id: usize) -> bool
+        ensures { IsTrue result ↔ (references_of self.now id + 1 < 2 ^ 64) }
+    {
+        match self.opened(id) {
+            Some(opened) => opened.references < usize::MAX,
+            None => true,
+        }
+    }
+
     /// Opens a description with one reference and the next number, and gives its id. `Nfile` comes
     /// exactly where 1,024 are open. `Memory` is want of memory, and all is as before then.
     pub fn open(&mut self, description: Description) -> Result<usize, Refusal>
@@ -195,7 +212,7 @@ impl Descs {
     }
 
     /// Puts another description of the same kind in the place of an id's.
-    fn change(&mut self, id: usize, description: Description)
+    pub(crate) fn change(&mut self, id: usize, description: Description)
         requires { IfSome (description_of self.old id) (λ d. d.kind ≡ description.kind) }
         ensures { self.new ≡ changed self.old id (λ _. description) }
     {

@@ -4,6 +4,11 @@
 mod description;
 mod descriptions;
 mod ends;
+mod offsets;
+mod reading;
+mod writing;
 
 pub use description::{Description, Kind};
 pub use descriptions::{Descs, OPEN_DESCRIPTIONS};
+pub use reading::RIGHT_READ;
+pub use writing::{FLAG_APPEND, RIGHT_WRITE};

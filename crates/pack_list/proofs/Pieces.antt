@@ -58,4 +58,3 @@ several kind path name (word ∷ more) some = refl
 -- four words or more say nothing
 pub too_many : (kind path name rest : List ℕ) → said (kind ∷ path ∷ name ∷ words rest) ≡ None
 too_many kind path name rest = several kind path name (words rest) (has_words rest)
-

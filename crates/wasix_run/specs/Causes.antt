@@ -1,15 +1,36 @@
 -- When each reason comes.
-use Rattle.std.specs.Prelude.{◌≡◌, ◌≢◌, ◌⊎◌, ◌<◌, ◌≤◌, ℕ, List, take, length}
+use Rattle.std.specs.Prelude.{◌≡◌, ◌≢◌, ◌⊎◌, ◌<◌, ◌≤◌, ℕ, List, Some, take, length}
 use Rattle.wx_types.specs.Files.{Files}
 use Rattle.wasm_decode.specs.ThinModule.{ThinModule}
 use Rattle.wasm_decode.specs.ThinGrammar.{SpellsThin, preamble}
 use Rattle.wasix_run.specs.declared.reason.Reason.{Reason}
-use Rattle.wasix_run.specs.declared.reason.Reason.TheVariants.{Exited, Usage, ShelfFault, TooLong, BadProgram, WriteFault, Memory}
+use Rattle.wasix_run.specs.declared.reason.Reason.TheVariants.{Exited, Usage, ShelfFault, TooLong, BadList, Done, BadProgram, WriteFault, Memory}
+use Rattle.wasix_run.specs.Line.{Pack, line}
+use Rattle.wasix_run.specs.Packing.{PackVerdict, Refused, Writes, pack_verdict}
 use Rattle.wasix_run.specs.Outside.{Names, program_limit}
 
 -- the named file is longer than a program may be
+abbrev pub IsLongProgram : List (List ℕ) → Files → Type 0
+IsLongProgram words files = (bytes : List ℕ) × Names words files bytes × (program_limit < length bytes)
+
+-- the words name a list to be packed, and this is its verdict
+pub record Packs (words : List (List ℕ)) (files : Files) (verdict : PackVerdict) : Type 0 where
+  pub list : List ℕ
+  pub out : List ℕ
+  pub command : line words ≡ Some (Pack list out)
+  pub judged : pack_verdict files list ≡ verdict
+
+-- a named file is longer than its limit
 abbrev pub IsTooLong : List (List ℕ) → Files → Type 0
-IsTooLong words files = (bytes : List ℕ) × Names words files bytes × (program_limit < length bytes)
+IsTooLong words files = IsLongProgram words files ⊎ Packs words files (Refused TooLong)
+
+-- the list is right and its files are there, and this image is to be written
+abbrev pub IsDone : List (List ℕ) → Files → Type 0
+IsDone words files = (image : List ℕ) × Packs words files (Writes image)
+
+-- this line of the list is the first that is wrong
+abbrev pub IsBadList : List (List ℕ) → Files → ℕ → Type 0
+IsBadList words files number = Packs words files (Refused (BadList number))
 
 -- the named file doesn't begin as a module does
 abbrev pub IsMalformed : List (List ℕ) → Files → Type 0
@@ -40,6 +61,8 @@ IsRefusal (Exited code) = ⊥
 IsRefusal Usage = Unit {0}
 IsRefusal ShelfFault = Unit {0}
 IsRefusal TooLong = Unit {0}
+IsRefusal (BadList line) = Unit {0}
+IsRefusal Done = Unit {0}
 IsRefusal (BadProgram fault) = Unit {0}
 IsRefusal WriteFault = ⊥
 IsRefusal Memory = ⊥

@@ -1,6 +1,8 @@
 pub mod Line
+pub mod Commands
 pub mod Status
 pub mod Outside
+pub mod Packing
 pub mod Causes
 pub mod Loading
 pub mod Serves

@@ -7,7 +7,7 @@ use Rattle.wasm_decode.specs.ThinGrammar.{SpellsThin, preamble}
 use Rattle.wasm_decode.specs.declared.fault.ThinFault.{ThinFault}
 use Rattle.wasm_decode.specs.declared.fault.ThinFault.TheVariants.{Malformed, NotYet, Memory as NoMemory}
 use Rattle.wasix_run.specs.declared.reason.Reason.{Reason}
-use Rattle.wasix_run.specs.declared.reason.Reason.TheVariants.{Exited, Usage, ShelfFault, TooLong, BadProgram, WriteFault, Memory}
+use Rattle.wasix_run.specs.declared.reason.Reason.TheVariants.{Exited, Usage, ShelfFault, TooLong, BadList, Done, BadProgram, WriteFault, Memory}
 use Rattle.wasix_run.specs.Outside.{program_limit}
 
 -- the name has these bytes, within the limit of a program
@@ -22,6 +22,8 @@ Loading files name (Err (Exited code)) = ⊥
 Loading files name (Err Usage) = ⊥
 Loading files name (Err ShelfFault) = Unit {0}
 Loading files name (Err TooLong) = (bytes : List ℕ) × (file_named files name ≡ Some bytes) × (program_limit < length bytes)
+Loading files name (Err (BadList line)) = ⊥
+Loading files name (Err Done) = ⊥
 Loading files name (Err (BadProgram Malformed)) = (bytes : List ℕ) × HasProgram files name bytes × (take 8 bytes ≢ preamble)
 Loading files name (Err (BadProgram NotYet)) =
     (bytes : List ℕ) × HasProgram files name bytes × (take 8 bytes ≡ preamble) × ((program : ThinModule) → SpellsThin bytes program → ⊥)
@@ -35,6 +37,8 @@ IsLoadFault (Exited code) = ⊥
 IsLoadFault Usage = ⊥
 IsLoadFault ShelfFault = Unit {0}
 IsLoadFault TooLong = Unit {0}
+IsLoadFault (BadList line) = ⊥
+IsLoadFault Done = ⊥
 IsLoadFault (BadProgram Malformed) = Unit {0}
 IsLoadFault (BadProgram NotYet) = Unit {0}
 IsLoadFault (BadProgram NoMemory) = ⊥

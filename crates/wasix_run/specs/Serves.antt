@@ -11,9 +11,10 @@ use Rattle.runner.specs.Run.{Run, EachReply, InOrder, EndsAs}
 use Rattle.wasm_decode.specs.ThinModule.{ThinModule}
 use Rattle.runner.specs.OneProcess.{Begins}
 use Rattle.wasix_run.specs.declared.reason.Reason.{Reason}
-use Rattle.wasix_run.specs.declared.reason.Reason.TheVariants.{Exited, ShelfFault, TooLong, BadProgram, Memory}
+use Rattle.wasix_run.specs.declared.reason.Reason.TheVariants.{Exited, ShelfFault, TooLong, BadList, Done, BadProgram, Memory}
 use Rattle.wasix_run.specs.Outside.{Boots, RunEnds}
-use Rattle.wasix_run.specs.Causes.{ExactlyWhere, IsTooLong, IsMalformed, IsNotYet}
+use Rattle.wasix_run.specs.Causes.{ExactlyWhere, IsTooLong, IsMalformed, IsNotYet, IsDone, IsBadList}
+use Rattle.wasix_run.specs.Loading.{IsLoadFault}
 
 -- the reason that tells how a run ended
 abbrev pub reason_of : Why → Reason
@@ -32,5 +33,11 @@ pub record Serves (words : List (List ℕ)) (files : Files) (reason : Reason) (e
   pub too_long : ExactlyWhere reason TooLong (IsTooLong words files)
   pub malformed : ExactlyWhere reason (BadProgram Malformed) (IsMalformed words files)
   pub not_yet : ExactlyWhere reason (BadProgram NotYet) (IsNotYet words files)
+  pub done : ExactlyWhere reason Done (IsDone words files)
+  pub bad_list : (number : ℕ) → ExactlyWhere reason (BadList number) (IsBadList words files number)
   -- where the command's program loads and the shelf didn't fail, it ran
   pub complete : (boot : Boot) → Boots words files boot → reason ≢ ShelfFault → IsRun reason
+
+-- a reason that may come of a program: how its run ended, or why it wasn't loaded
+abbrev pub IsOneReason : Reason → Type 0
+IsOneReason reason = ((why : Why) × (reason ≡ reason_of why)) ⊎ IsLoadFault reason

@@ -4,6 +4,7 @@
 mod file_shelf;
 mod line;
 mod load;
+mod pack;
 mod print;
 mod reason;
 mod report;

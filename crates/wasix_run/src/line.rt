@@ -1,14 +1,27 @@
 // The words of a command line, read by hand.
-ghost use Rattle.std.specs.Prelude.{◌≡◌, map, string_bytes, IfSome, IfNone, Some, None};
-ghost use Rattle.wasix_run.specs.Line.{One, line};
+ghost use Rattle.std.specs.Prelude.{◌≡◌, map, string_bytes};
+ghost use Rattle.std.specs.Option.{option_map};
+ghost use Rattle.wasix_run.specs.Line.{line};
+ghost use Rattle.wasix_run.specs.Commands.{seen};
 
-/// The file that `one FILE` names; `None` where the words are no command.
-pub fn file_of(words: &[String]) -> Option<&str>
-    ensures command { IfSome result (λ file. line (map string_bytes words.now) ≡ Some (One file.now)) }
-    ensures none { IfNone result (line (map string_bytes words.now) ≡ None) }
+/// What the words ask for.
+#[derive(Clone, Copy, Debug)]
+pub enum Command<'a> {
+    /// `one FILE`: the program in this file is run.
+    One(&'a str),
+    /// `pack LIST OUT`: the image of the list in the first file is written under the second name.
+    Pack(&'a str, &'a str),
+}
+
+/// The command that the words are; `None` where they are none.
+pub fn command_of(words: &[String]) -> Option<Command<'_>>
+    ensures { option_map seen result ≡ line (map string_bytes words.now) }
 {
     match words {
-        [word, file] if word.as_str() == "one" => Some(file.as_str()),
+        [word, file] if word.as_str() == "one" => Some(Command::One(file.as_str())),
+        [word, list, out] if word.as_str() == "pack" => {
+            Some(Command::Pack(list.as_str(), out.as_str()))
+        }
         _ => None,
     }
 }

@@ -16,6 +16,13 @@ pub enum Reason {
     ShelfFault,
     /// A named file is longer than its limit. Exit status 66.
     TooLong,
+    /// This line of the pack list is the first that is wrong. Exit status 65.
+    BadList {
+        /// The line's number, from 1.
+        line: u32,
+    },
+    /// The command wrote its file. Exit status 0.
+    Done,
     /// The named file is no program that can be run. The fault is never `Memory`. Exit status 126.
     BadProgram(ThinFault),
     /// A sink failed to take what the run printed or the text of the reason. Exit status 74.
@@ -32,6 +39,8 @@ impl Reason {
         match self {
             Reason::Exited(code) => (*code % 256) as u8,
             Reason::Usage => 64,
+            Reason::BadList { .. } => 65,
+            Reason::Done => 0,
             Reason::ShelfFault | Reason::TooLong => 66,
             Reason::BadProgram(_) => 126,
             Reason::WriteFault => 74,
@@ -44,10 +53,11 @@ impl Reason {
         ensures { result.now ≡ text_of self.now }
     {
         match self {
-            Reason::Exited(_) | Reason::WriteFault => "",
+            Reason::Exited(_) | Reason::Done | Reason::WriteFault => "",
             Reason::Usage => "usage: wasix one|run|asm|pack|kit|gen|trace\n",
             Reason::ShelfFault => "wasix: file fault\n",
             Reason::TooLong => "wasix: file too long\n",
+            Reason::BadList { .. } => "wasix: bad list\n",
             Reason::BadProgram(ThinFault::NotYet) => "wasix: not built yet\n",
             Reason::BadProgram(_) => "wasix: bad program\n",
             Reason::Memory => "wasix: out of memory\n",

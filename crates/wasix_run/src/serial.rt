@@ -1,21 +1,23 @@
 // The top call that runs everything on one thread, and returns.
-ghost use Rattle.std.specs.Prelude.{◌≡◌, ◌≢◌, ◌<◌, ◌≤◌, ◌↔◌, ◌⊎◌, ◌++◌, ℕ, [], map, string_bytes, Some, None};
-ghost use Rattle.wx_types.specs.Files.{Files};
+ghost use Rattle.std.specs.Prelude.{◌≡◌, ◌≢◌, ◌<◌, ◌≤◌, ◌↔◌, ◌⊎◌, ◌++◌, ℕ, List, [], map, string_bytes, Some, None};
+ghost use Rattle.wx_types.specs.Files.{Files, told_file};
 ghost use Rattle.wx_types.specs.Outside.{Rose, followed_by, GrewByFront};
 ghost use Rattle.wasix_run.specs.Printed.{printed};
 ghost use Rattle.wasix_run.specs.Texts.{text_of};
 ghost use Rattle.runner.specs.Kernel.{Exited};
 ghost use Rattle.runner.specs.Boot.{Boot};
 ghost use Rattle.runner.specs.Run.{Run, EachReply, InOrder};
-ghost use Rattle.wasix_run.specs.Line.{line};
+ghost use Rattle.wasix_run.specs.Line.{One, Pack, line};
+ghost use Rattle.wasix_run.specs.Packing.{Writes, PackedAs, pack_verdict};
 ghost use Rattle.wasix_run.specs.Status.{status_of};
 ghost use Rattle.wasix_run.specs.Outside.{Boots, RunEnds};
-ghost use Rattle.wasix_run.specs.Serves.{Serves, IsRun, reason_of};
+ghost use Rattle.wasix_run.specs.Serves.{Serves, IsRun, IsOneReason, reason_of};
 ghost use Rattle.runner.specs.Ran.{Ran};
-ghost use Rattle.wasix_run.specs.Causes.{ComesWhere, ComesUnwritten, IsTooLong, IsMalformed, IsNotYet, IsRefusal};
+ghost use Rattle.wasix_run.specs.Causes.{ComesWhere, ComesUnwritten, IsTooLong, IsMalformed, IsNotYet, IsDone, IsBadList, Packs, IsRefusal};
 
-use crate::line::file_of;
+use crate::line::{Command, command_of};
 use crate::load::load;
+use crate::pack::pack;
 use crate::print::Stream;
 use crate::reason::Reason;
 use crate::report::report;
@@ -95,9 +97,25 @@ fn run(alloc: Global, program: &Thin) -> Answer
     }
 }
 
+// the answer to `one FILE`
+fn serve_one<H: Shelf>(alloc: Global, shelf: &mut H, file: &str) -> Answer
+    ensures told { (files : Files) (words : List (List ℕ)) → H.held shelf.old ≡ Some files → line words ≡ Some (One file.now) → Serves words files result.reason result.journal }
+    ensures kind { IsOneReason result.reason }
+    ensures shelf_fault { result.reason ≡ Reason.ShelfFault → Rose (H.faults shelf.old) (H.faults shelf.new) }
+    ensures shelf_rose { H.faults shelf.old < H.faults shelf.new → (result.reason ≡ Reason.ShelfFault) ⊎ (result.reason ≡ Reason.Memory) }
+    ensures shelf_never_falls { H.faults shelf.old ≤ H.faults shelf.new }
+    ensures unbegun { IsRefusal result.reason → result.journal ≡ [] }
+{
+    match load(alloc, shelf, file) {
+        Ok(program) => run(alloc, &program),
+        Err(reason) => refusal(alloc, reason),
+    }
+}
+
 // the answer to the words
 fn serve<H: Shelf>(alloc: Global, words: &[String], shelf: &mut H) -> Answer
     ensures told { (files : Files) → H.held shelf.old ≡ Some files → Serves (map string_bytes words.now) files result.reason result.journal }
+    ensures packed { (files : Files) (list out : List ℕ) → H.held shelf.old ≡ Some files → line (map string_bytes words.now) ≡ Some (Pack list out) → PackedAs (pack_verdict files list) (told_file (H.held shelf.new) out) result.reason }
     ensures usage { (result.reason ≡ Reason.Usage) ↔ (line (map string_bytes words.now) ≡ None) }
     ensures shelf_fault { result.reason ≡ Reason.ShelfFault → Rose (H.faults shelf.old) (H.faults shelf.new) }
     ensures shelf_rose { H.faults shelf.old < H.faults shelf.new → (result.reason ≡ Reason.ShelfFault) ⊎ (result.reason ≡ Reason.Memory) }
@@ -106,18 +124,16 @@ fn serve<H: Shelf>(alloc: Global, words: &[String], shelf: &mut H) -> Answer
     ensures unwritten { result.reason ≢ Reason.WriteFault }
     ensures unbegun { IsRefusal result.reason → result.journal ≡ [] }
 {
-    let Some(file) = file_of(words) else {
-        return refusal(alloc, Reason::Usage);
-    };
-    match load(alloc, shelf, file) {
-        Ok(program) => run(alloc, &program),
-        Err(reason) => refusal(alloc, reason),
+    match command_of(words) {
+        None => refusal(alloc, Reason::Usage),
+        Some(Command::One(file)) => serve_one(alloc, shelf, file),
+        Some(Command::Pack(list, out)) => refusal(alloc, pack(alloc, shelf, list, out)),
     }
 }
 
 /// Runs the command that the words are, and returns.
 ///
-/// `one FILE` runs the program in FILE as process 1. The refusals are tested in the order of the words, the shelf's
+/// `pack LIST OUT` writes the image of the list in LIST under OUT. `one FILE` runs the program in FILE as process 1. The refusals are tested in the order of the words, the shelf's
 /// read, the length of the file and the program; where one of them comes no run is begun and the journal is empty. What the run
 /// printed is written from the history: output first, then errors, also where the output failed, and then the text of the reason.
 pub fn wasix_serial<H: Shelf, I: Source, O: Sink, E: Sink>(
@@ -153,6 +169,11 @@ pub fn wasix_serial<H: Shelf, I: Source, O: Sink, E: Sink>(
     ensures shelf_rose { H.faults shelf.old < H.faults shelf.new → (result.reason ≡ Reason.ShelfFault) ⊎ (result.reason ≡ Reason.WriteFault) ⊎ (result.reason ≡ Reason.Memory) }
     ensures shelf_never_falls { H.faults shelf.old ≤ H.faults shelf.new }
     ensures too_long { (files : Files) → H.held shelf.old ≡ Some files → ComesWhere result.reason Reason.TooLong (IsTooLong (map string_bytes words.now) files) }
+    ensures bad_list { (files : Files) (number : ℕ) → H.held shelf.old ≡ Some files → ComesWhere result.reason (Reason.BadList number) (IsBadList (map string_bytes words.now) files number) }
+    ensures done { (files : Files) → H.held shelf.old ≡ Some files → ComesWhere result.reason Reason.Done (IsDone (map string_bytes words.now) files) }
+    // With Done the shelf holds the image of the list's tree under the name.
+    ensures packed { (files : Files) (list out : List ℕ) → H.held shelf.old ≡ Some files → line (map string_bytes words.now) ≡ Some (Pack list out) → result.reason ≡ Reason.Done
+        → (image : List ℕ) × (pack_verdict files list ≡ Writes image) × (told_file (H.held shelf.new) out ≡ Some (Some image)) }
     ensures malformed { (files : Files) → H.held shelf.old ≡ Some files → ComesWhere result.reason (Reason.BadProgram ThinFault.Malformed) (IsMalformed (map string_bytes words.now) files) }
     ensures not_yet { (files : Files) → H.held shelf.old ≡ Some files → ComesWhere result.reason (Reason.BadProgram ThinFault.NotYet) (IsNotYet (map string_bytes words.now) files) }
     ensures no_other_fault { result.reason ≢ Reason.BadProgram ThinFault.Memory }
@@ -167,6 +188,10 @@ pub fn wasix_serial<H: Shelf, I: Source, O: Sink, E: Sink>(
     ensures complete { (files : Files) (boot : Boot) → H.held shelf.old ≡ Some files → Boots (map string_bytes words.now) files boot
         → (Rose (H.faults shelf.old) (H.faults shelf.new) → ⊥) → (Rose (O.faults out) (O.faults result.out) → ⊥) → (Rose (E.faults err) (E.faults result.err) → ⊥)
         → IsRun result.reason }
+    // Where the list is right, its files are there and nothing failed, its image is written, unless memory ran out.
+    ensures complete_pack { (files : Files) (image : List ℕ) → H.held shelf.old ≡ Some files → Packs (map string_bytes words.now) files (Writes image)
+        → (Rose (H.faults shelf.old) (H.faults shelf.new) → ⊥) → (Rose (O.faults out) (O.faults result.out) → ⊥) → (Rose (E.faults err) (E.faults result.err) → ⊥)
+        → (result.reason ≡ Reason.Done) ⊎ (result.reason ≡ Reason.Memory) }
 {
     let mut out = out;
     let mut err = err;

@@ -1,4 +1,4 @@
-use Rattle.std.proofs.Common.{◌≡◌, ◌≤◌, length, take, reverse, List, sym, ap, arith}
+use Rattle.std.proofs.Common.{length, sym, ap, arith}
 use Rattle.guest_state.proofs.HeightLemmas.{below-stack, length-stack}
 use Rattle.guest_state.proofs.stack.Stack.keep.Goals as goal
 

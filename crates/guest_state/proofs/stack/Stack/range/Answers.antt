@@ -1,4 +1,4 @@
-use Rattle.std.proofs.Common.{◌≡◌, ◌+◌, ◌-◌, ◌≤◌, arith}
+use Rattle.std.proofs.Common.{◌≡◌, ◌+◌, ◌-◌, arith}
 use Rattle.guest_state.proofs.HeightLemmas.{length-stack, range-stack}
 use Rattle.guest_state.proofs.stack.Stack.range.Goals as goal
 

@@ -1,4 +1,4 @@
-use Rattle.std.proofs.Common.{◌≡◌, ◌≤◌, length, take, reverse, List, sym, ap₂, arith}
+use Rattle.std.proofs.Common.{ap₂, arith}
 use Rattle.std.proofs.lemmas.List.{length-set}
 use Rattle.guest_state.proofs.HeightLemmas.{set-stack, length-stack}
 use Rattle.guest_state.proofs.stack.Stack.set.Goals as goal

@@ -1,9 +1,9 @@
-use Rattle.std.proofs.Common.{◌≡◌, ◌+◌, ◌-◌, ◌≤◌, ◌<◌, ℕ, ◌∷◌, length, drop, option_to_list, arith}
+use Rattle.std.proofs.Common.{◌≡◌, ◌+◌, ◌-◌, ◌≤◌, ◌<◌, ◌∷◌, length, drop, option_to_list, arith}
 use Rattle.guest_state.specs.GuestThread.{value_count}
 use Rattle.guest_state.specs.Snapshot.{Snapshot, thread_of}
 use Rattle.guest_state.specs.Steps.{taken_count, operand_count}
 use Rattle.guest_state.proofs.HeightLemmas.{below-last, length-below}
-use Rattle.guest_state.proofs.SnapshotLemmas.{answer_law, frames_values, arguments_law, taken_count_is, takes_is, value_count_at}
+use Rattle.guest_state.proofs.SnapshotLemmas.{answer_law, frames_values, takes_is}
 use Rattle.guest_state.proofs.thread.Thread.answer.Goals as goal
 
 pub returns : goal.returns

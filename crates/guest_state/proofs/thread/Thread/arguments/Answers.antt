@@ -1,8 +1,7 @@
-use Rattle.std.proofs.Common.{◌≡◌, ◌+◌, ◌-◌, ◌≤◌, ◌<◌, ℕ, ◌∷◌, length, drop, arith}
+use Rattle.std.proofs.Common.{◌≡◌, ◌-◌, ◌≤◌, ◌<◌, length}
 use Rattle.guest_state.specs.Snapshot.{Snapshot, thread_of}
 use Rattle.guest_state.specs.Steps.{taken_count, operand_count}
-use Rattle.guest_state.proofs.HeightLemmas.{below-last}
-use Rattle.guest_state.proofs.SnapshotLemmas.{answer_law, arguments_law, taken_count_is, takes_is, value_count_at}
+use Rattle.guest_state.proofs.SnapshotLemmas.{arguments_law}
 use Rattle.guest_state.proofs.thread.Thread.arguments.Goals as goal
 
 pub returns : goal.returns

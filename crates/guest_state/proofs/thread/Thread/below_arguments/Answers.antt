@@ -1,8 +1,5 @@
-use Rattle.std.proofs.Common.{◌≡◌, ◌+◌, ◌-◌, ◌≤◌, ◌<◌, ℕ, ◌∷◌, length, drop, arith}
-use Rattle.guest_state.specs.Snapshot.{Snapshot, thread_of}
-use Rattle.guest_state.specs.Steps.{taken_count, operand_count}
-use Rattle.guest_state.proofs.HeightLemmas.{below-last}
-use Rattle.guest_state.proofs.SnapshotLemmas.{answer_law, arguments_law, taken_count_is, takes_is, value_count_at}
+use Rattle.std.proofs.Common.{◌≡◌, length, drop, arith}
+use Rattle.guest_state.proofs.SnapshotLemmas.{taken_count_is}
 use Rattle.guest_state.proofs.thread.Thread.below_arguments.Goals as goal
 
 pub returns-clause-value : goal.returns-clause-value

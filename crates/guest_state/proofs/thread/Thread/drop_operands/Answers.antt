@@ -1,8 +1,7 @@
-use Rattle.std.proofs.Common.{◌≡◌, ◌≤◌, ◌<◌, ℕ, [], ◌∷◌, length, sym, ap, ◌∙◌, arith}
-use Rattle.std.proofs.lemmas.Bool.Decides.{nat_tests}
+use Rattle.std.proofs.Common.{◌≤◌, [], length}
 use Rattle.guest_state.specs.Snapshot.{Snapshot, operands_of}
 use Rattle.guest_state.proofs.HeightLemmas.{below-last}
-use Rattle.guest_state.proofs.SnapshotLemmas.{operands_few, parted_operands, value_count_at, with_operands_at}
+use Rattle.guest_state.proofs.SnapshotLemmas.{operands_few, with_operands_at}
 use Rattle.guest_state.proofs.thread.Thread.drop_operands.Goals as goal
 
 pub returns-clause-value : goal.returns-clause-value

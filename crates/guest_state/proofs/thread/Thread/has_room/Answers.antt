@@ -1,4 +1,4 @@
-use Rattle.std.proofs.Common.{◌≡◌, length, sym, ◌∙◌, arith}
+use Rattle.std.proofs.Common.{arith}
 use Rattle.std.proofs.lemmas.Bool.Decides.{nat_tests}
 use Rattle.guest_state.specs.Snapshot.{Snapshot}
 use Rattle.guest_state.proofs.SnapshotLemmas.{has_room_is}

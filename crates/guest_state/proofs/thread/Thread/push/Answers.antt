@@ -1,9 +1,8 @@
-use Rattle.std.proofs.Common.{◌≡◌, ◌≤◌, ◌<◌, ◌+◌, ◌-◌, ℕ, suc, true, false, [], ◌∷◌, length, sym, ap, ◌∙◌, arith}
+use Rattle.std.proofs.Common.{◌≡◌, ◌<◌, ◌+◌, ◌-◌, suc, true, false, [], ◌∷◌, length, arith}
 use Rattle.std.proofs.lemmas.Bool.Decides.{nat_tests}
 use Rattle.std.specs.Prelude.{nat_le}
-use Rattle.guest_state.specs.Snapshot.{Snapshot, operands_of}
-use Rattle.guest_state.proofs.HeightLemmas.{below-last}
-use Rattle.guest_state.proofs.SnapshotLemmas.{operands_few, parted_operands, value_count_at, with_operands_at}
+use Rattle.guest_state.specs.Snapshot.{Snapshot}
+use Rattle.guest_state.proofs.SnapshotLemmas.{parted_operands, value_count_at, with_operands_at}
 use Rattle.guest_state.proofs.thread.Thread.push.Goals as goal
 
 pub returns-clause-ok : goal.returns-clause-ok

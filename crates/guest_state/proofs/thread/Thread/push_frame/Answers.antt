@@ -1,11 +1,11 @@
-use Rattle.std.proofs.Common.{◌≡◌, ◌+◌, ◌∷◌, List, length, true, false, Result, Ok, Err, sym, ap, ◌∙◌, arith}
+use Rattle.std.proofs.Common.{◌≡◌, ◌+◌, List, length, true, Result, Ok, sym, ap, ◌∙◌}
 use Rattle.int_ops.specs.declared.trap.Cause.{Cause}
 use Rattle.guest_state.specs.GuestThread.{GuestThread, Frame}
 use Rattle.guest_state.specs.Module.{further_locals, own_function}
-use Rattle.guest_state.specs.Snapshot.{Snapshot, thread_of, frames_of}
-use Rattle.guest_state.specs.Steps.{entered, has_room, with_frame}
+use Rattle.guest_state.specs.Snapshot.{Snapshot, thread_of}
+use Rattle.guest_state.specs.Steps.{has_room, with_frame}
 use Rattle.guest_state.proofs.FitsLemmas.{with_frame_fits}
-use Rattle.guest_state.proofs.SnapshotLemmas.{entered_frames, with_frame_ok, with_frame_full}
+use Rattle.guest_state.proofs.SnapshotLemmas.{entered_frames, with_frame_ok}
 use Rattle.guest_state.proofs.thread.Thread.push_frame.Goals as goal
 
 pub returns-clause-ok : goal.returns-clause-ok

@@ -1,4 +1,4 @@
-use Rattle.std.proofs.Common.{◌≡◌, [], ◌∷◌, false, refl, sym, ap, subst, ◌∙◌, arith}
+use Rattle.std.proofs.Common.{[], ◌∷◌, false, refl, sym, ap, subst, ◌∙◌}
 use Rattle.guest_state.specs.GuestThread.{GuestThread, Frame}
 use Rattle.guest_state.specs.Fits.{Fits}
 use Rattle.guest_state.specs.Module.{own_function, first_globals}

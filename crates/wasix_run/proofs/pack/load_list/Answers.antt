@@ -1,0 +1,15 @@
+use Rattle.std.proofs.Common.{◌≡◌, ◌≤◌, ℕ, List, length, Some, Err, Ok, sym, ap, subst, ◌∙◌}
+use Rattle.wasix_run.specs.declared.reason.Reason.{Reason}
+use Rattle.wasix_run.specs.Packing.{FilledAs, pack_verdict}
+use Rattle.wasix_run.proofs.PackLemmas.{list_unread, list_is, list_refused}
+use Rattle.wasix_run.proofs.pack.load_list.Goals as goal
+
+pub returns-in-Err-clause-told : goal.returns-in-Err-clause-told
+returns-in-Err-clause-told g c = λ files held. list_unread files c.args.list.now c.in-Err.reason (c.in-Err.ensures.told files held)
+
+pub returns-in-Err-judge-clause-told : goal.returns-in-Err-judge-clause-told
+returns-in-Err-judge-clause-told g c = λ files held.
+    let found = c.in-Ok.ensures.told files held ∙ ap (λ (b : List ℕ). Some b) (sym c.as_slice.ensures) in
+    let short : length c.as_slice.result.now ≤ 1048576 = subst (λ (b : List ℕ). length b ≤ 1048576) (sym c.as_slice.ensures) c.in-Ok.ensures.within in
+    subst (λ (r : Reason). FilledAs (pack_verdict files c.args.list.now) (Err r)) (sym c.list_reason.ensures)
+    (list_refused files c.args.list.now c.as_slice.result.now found short c.in-Err-judge.fault c.in-Err-judge.ensures)

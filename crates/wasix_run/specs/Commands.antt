@@ -1,0 +1,8 @@
+-- A command without where its names lie in memory.
+use Rattle.wasix_run.specs.Line as words
+use Rattle.wasix_run.specs.declared.line.Command.{Command}
+use Rattle.wasix_run.specs.declared.line.Command.TheVariants.{One, Pack}
+
+abbrev pub seen : Command → words.Command
+seen (One file) = words.One file.now
+seen (Pack list out) = words.Pack list.now out.now
