@@ -1,3 +1,4 @@
+pub mod AnswerLemmas
 pub mod FitsLemmas
 pub mod HeightLemmas
 pub mod LabelLemmas

@@ -1,16 +1,21 @@
 -- What a thread of a typed module keeps (WebAssembly Core 1.0, 3.3 and 7.5): the code left in each frame and label is typed
 -- over the operands there, and each frame's result is what the frame below waits for.
-use Rattle.std.specs.Prelude.{◌≡◌, ℕ, ◌<◌, ◌^◌, true, false, List, [], ◌∷◌, ◌++◌, length, map, replicate, slice_get, Option, Some, None, option_and_then, option_to_list}
+use Rattle.std.specs.Prelude.{◌≡◌, ℕ, ◌+◌, ◌<◌, ◌^◌, true, false, List, [], ◌∷◌, ◌++◌, length, map, replicate, slice_get, Option, Some, None, option_and_then, option_to_list}
 use Rattle.wasm_ast.specs.declared.types.ValType.{ValType}
 use Rattle.wasm_ast.specs.declared.types.FuncType.{FuncType}
 use Rattle.wasm_ast.specs.declared.locals.LocalGroup.{LocalGroup}
 use Rattle.wasm_ast.specs.declared.module.Code.{Code}
 use Rattle.wasm_ast.specs.declared.module.Module.{Module}
-use Rattle.wasm_ast.specs.Sequence.{Sequence}
-use Rattle.wasm_ast.specs.Typing.{Context, Labels, Operands, given, leaves, typed}
+use Rattle.wasm_ast.specs.declared.instr.Instr.{Instr}
+use Rattle.wasm_ast.specs.declared.instr.Instr.TheVariants as instr
+use Rattle.wasm_ast.specs.declared.types.ValType.TheVariants.{I32}
+use Rattle.wasm_ast.specs.Operators.{access_operands, access_results}
+use Rattle.wasm_ast.specs.Sequence.{Sequence, Plain}
+use Rattle.wasm_ast.specs.Typing.{Context, Labels, function_type, Operands, given, leaves, typed}
 use Rattle.wasm_ast.specs.TypingModule.{context_of, in_function}
 use Rattle.guest_state.specs.GuestThread.{Label, Frame, GuestThread}
 use Rattle.guest_state.specs.Module.{type_bits, type_of}
+use Rattle.guest_state.specs.Steps.{over_arguments}
 
 -- a value of a type, as the bits of the number
 abbrev pub HasType : ValType → ℕ → Type 0
@@ -90,3 +95,29 @@ pub record Accepts (m : Module) (function : ℕ) (arguments : List ℕ) : Type 0
   pub type : FuncType
   pub its_type : type_of m function ≡ Some type
   pub values : HaveTypes type.params arguments
+
+-- the types that a call, a wait or a notify takes and gives (3.3.5, and the threads proposal); other instructions are answered
+-- by nobody
+abbrev pub answered_types : Context → Instr → Option (List ValType × List ValType)
+answered_types c (instr.Call x) = option_and_then (λ (f : FuncType). Some (f.params, f.results)) (function_type c x)
+answered_types c (instr.CallIndirect t) = option_and_then (λ (f : FuncType). Some (f.params ++ I32 ∷ [], f.results)) (slice_get c.types t)
+answered_types c (instr.Access op arg) = Some (access_operands op, access_results op)
+answered_types c i = None
+
+-- the frame stands at one that takes so many operands and gives a value of this type, or none
+pub record StandsAtAnswered (m : Module) (f : Frame) (count : ℕ) (value : Option ℕ) : Type 0 where
+  pub i : Instr
+  pub rest : Sequence
+  pub stands : f.code ≡ Plain i rest
+  pub params : List ValType
+  pub results : List ValType
+  pub its_types : (c : Context) → function_context m f.function ≡ Some c → answered_types c i ≡ Some (params, results)
+  pub takes : length params ≡ over_arguments f.code + count
+  pub gives : HaveTypes results (option_to_list value)
+
+abbrev pub frames_answered : Module → List Frame → ℕ → Option ℕ → Type 0
+frames_answered m [] count value = Unit {0}
+frames_answered m (f ∷ fs) count value = StandsAtAnswered m f count value
+
+abbrev pub IsAnsweredBy : Module → GuestThread → ℕ → Option ℕ → Type 0
+IsAnsweredBy m thread count value = frames_answered m thread.frames count value

@@ -2,7 +2,7 @@
 ghost use Rattle.std.specs.Prelude.{◌≡◌, ◌+◌, ◌-◌, ◌≤◌, ◌<◌, length, [], IfOk, OnOk, OnErr, IfErr, Ok, Err, ◌∷◌, drop, option_to_list, true, None};
 ghost use Rattle.guest_state.specs.Module.{own_function, type_of, further_locals, first_globals, result_count};
 ghost use Rattle.wasm_ast.specs.TypingModule.{is_typed};
-ghost use Rattle.guest_state.specs.Fits.{Accepts, Fits, result_of};
+ghost use Rattle.guest_state.specs.Fits.{Accepts, Fits, IsAnsweredBy, result_of};
 ghost use Rattle.guest_state.specs.Snapshot.{placed, thread_of};
 ghost use Rattle.guest_state.specs.GuestThread.{in_frame, value_count};
 ghost use Rattle.guest_state.specs.Steps.{started, with_frame, has_room, taken_count, operand_count, arguments_of, answered};
@@ -45,7 +45,7 @@ pub struct Thread {
 
 impl Model for Thread {
     ghost use Rattle.wasm_ast.specs.TypingModule.{is_typed};
-    ghost use Rattle.guest_state.specs.Fits.{Accepts, Fits, result_of};
+    ghost use Rattle.guest_state.specs.Fits.{Accepts, Fits, IsAnsweredBy, result_of};
     ghost use Rattle.guest_state.specs.Snapshot.{Snapshot};
     ghost use Rattle.guest_state.specs.Sound.{IsSound};
 
@@ -212,7 +212,8 @@ impl Thread {
         requires some { 0 < length self.old.frames }
         requires stands { taken_count (thread_of «module».now self.old) count ≤ operand_count (thread_of «module».now self.old) }
         requires room { value_count (thread_of «module».now self.old) + length (option_to_list value) ≤ 65536 + taken_count (thread_of «module».now self.old) count }
-        ensures { thread_of «module».now self.new ≡ in_frame (answered count value) (thread_of «module».now self.old) }
+        ensures value { thread_of «module».now self.new ≡ in_frame (answered count value) (thread_of «module».now self.old) }
+        ensures fits { IsAnsweredBy «module».now (thread_of «module».now self.old) count value → Fits «module».now (thread_of «module».now self.old) → Fits «module».now (thread_of «module».now self.new) }
     {
         let place = behind_instruction(module, self.innermost());
         let low = self.below_arguments(module, count);

@@ -1,13 +1,15 @@
-use Rattle.std.proofs.Common.{◌≡◌, ◌+◌, ◌-◌, ◌≤◌, ◌<◌, ◌∷◌, length, drop, option_to_list, arith}
+use Rattle.std.proofs.Common.{◌≡◌, ◌+◌, ◌-◌, ◌≤◌, ◌<◌, ◌∷◌, length, drop, option_to_list, arith, subst, sym}
 use Rattle.guest_state.specs.GuestThread.{value_count}
+use Rattle.guest_state.specs.Fits.{Fits}
+use Rattle.guest_state.proofs.AnswerLemmas.{answered_fits}
 use Rattle.guest_state.specs.Snapshot.{Snapshot, thread_of}
 use Rattle.guest_state.specs.Steps.{taken_count, operand_count}
 use Rattle.guest_state.proofs.HeightLemmas.{below-last, length-below}
 use Rattle.guest_state.proofs.SnapshotLemmas.{answer_law, frames_values, takes_is}
 use Rattle.guest_state.proofs.thread.Thread.answer.Goals as goal
 
-pub returns : goal.returns
-returns c =
+pub returns-clause-value : goal.returns-clause-value
+returns-clause-value c =
     let m = c.args.module.now in
     let t = c.self.inside in
     let s : Snapshot = record { values = t.values.items; labels = t.labels.items; frames = t.frames.items; globals = t.globals.items; main = t.main; full = t.full } in
@@ -33,3 +35,8 @@ push_option-requires c =
     let room = (c.self.invariant.has_room some).values_room in
     let kept = length-below s.values (length s.values - taken_count (thread_of m s) c.args.count) (omega arith) in
     rw (c.keep.ensures, low) (omega (arith, kept, takes.values, fits, count, room))
+
+pub returns-clause-fits : goal.returns-clause-fits
+returns-clause-fits c by fits =
+    let m = c.args.module.now in
+    subst (Fits m) (sym (returns-clause-value c)) (answered_fits m (thread_of m c.args.self.now) c.args.count c.args.value by fits)
