@@ -1,5 +1,5 @@
 // Descriptors in 128 places, with a word that tells which are open.
-ghost use Rattle.std.specs.Prelude.{◌≡◌, ◌<◌, ◌≤◌, ◌↔◌, None, IsSome, IfSome, IfOk, OnOk, OnErr, IsOkUnless};
+ghost use Rattle.std.specs.Prelude.{◌≡◌, ◌<◌, ◌↔◌, None, IsSome, IfSome, IfOk, IsOkUnless};
 ghost use Rattle.std.specs.FinMap.{empty, get as entry_at, insert, remove};
 ghost use Rattle.fd_table.specs.Table.{id_at, lowest_free, put_answer, after_put, dup_answer, after_dup, renumber_answer, after_renumber, close_answer, after_close, after_mark, marked_id, dropped_ids, after_exec};
 

@@ -1,5 +1,5 @@
 -- What is no pipe is read and written alike with a pipe at hand and without.
-use Rattle.std.proofs.Common.{◌≡◌, ℕ, List, [], Option, Some, None, Result, Ok, Err, refl, ap}
+use Rattle.std.proofs.Common.{◌≡◌, ℕ, List, [], Some, None, Result, Ok, Err, refl}
 use Rattle.wx_types.specs.declared.errors.Errno.{Errno}
 use Rattle.wx_types.specs.declared.errors.Refusal.{Refusal}
 use Rattle.wx_types.specs.declared.errors.Refusal.TheVariants.{Errno as refused, Memory}

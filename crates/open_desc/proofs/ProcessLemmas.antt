@@ -1,16 +1,15 @@
 -- After each step the references of a description are the descriptors that name it.
-use Rattle.std.proofs.Common.{◌≡◌, ◌≢◌, ℕ, ◌+◌, ◌-◌, ◌<◌, ◌≤◌, ◌==◌, Bool, true, false, cond, List, [], ◌∷◌, ◌++◌, map, Option, Some, None, IsSome, is_some, unwrap_or, Result, Ok, Err, refl, sym, ap, ◌∙◌, arith, ⊎_elim, nat_lt}
+use Rattle.std.proofs.Common.{◌≡◌, ◌≢◌, ℕ, ◌+◌, ◌-◌, ◌<◌, ◌≤◌, ◌==◌, Bool, true, false, List, [], ◌∷◌, Option, Some, None, IsSome, unwrap_or, Ok, Err, refl, sym, ap, ◌∙◌, arith, nat_lt}
 use Rattle.std.specs.Bool.{if◌then◌else◌}
 use Rattle.std.specs.Option.{option_map, option_map_or, ok_or}
 use Rattle.std.specs.List.{list_any}
 use Rattle.std.specs.Ordering.{nat_cmp}
 use Rattle.std.specs.FinMap.{get, insert, remove, empty, values, get-empty}
-use Rattle.std.proofs.lemmas.Bool.{cases_eq, false≢true}
+use Rattle.std.proofs.lemmas.Bool.{false≢true}
 use Rattle.std.proofs.lemmas.Bool.Decides.{nat_tests}
-use Rattle.wx_types.specs.declared.errors.Errno.{Errno}
 use Rattle.wx_types.specs.declared.errors.Errno.TheVariants.{Badf, Mfile}
 use Rattle.fd_table.specs.declared.table.Descriptor.{Descriptor}
-use Rattle.fd_table.specs.Table.{Table, id_at, lowest_free, put_answer, after_put, dup_answer, after_dup, renumber_answer, after_renumber, close_answer, after_close, dropped_ids, after_exec}
+use Rattle.fd_table.specs.Table.{Table, lowest_free, after_put, dropped_ids, after_exec}
 use Rattle.fd_table.proofs.TotalLemmas.{total-empty, total-insert, total-remove, total-positive, part-le_total, any-found, any-present}
 use Rattle.fd_table.proofs.PlaceLemmas.{remove_absent}
 use Rattle.open_desc.specs.Descriptions.{Descriptions, references_of, after_open, after_share, after_release, is_end, end_left}

@@ -1,5 +1,5 @@
 -- Counts of open ends by pipe, kept beside the descriptions.
-use Rattle.std.specs.Prelude.{◌≡◌, ℕ, Bool, ◌+◌, ◌==◌, ◌≤◌, if◌then◌else◌, true, false, Option, unwrap_or}
+use Rattle.std.specs.Prelude.{◌≡◌, ℕ, Bool, ◌≤◌, if◌then◌else◌, true, false, unwrap_or}
 use Rattle.std.specs.Ordering.{nat_cmp}
 use Rattle.std.specs.BTreeMap.{BTreeMap, get}
 use Rattle.std.specs.FinMap.{len}

@@ -1,5 +1,5 @@
 -- A write by the kind of the description (WASI preview 1, `fd_write`; POSIX.1-2017, `write`).
-use Rattle.std.specs.Prelude.{◌≡◌, ℕ, Bool, true, false, ◌+◌, ◌==◌, if◌then◌else◌, List, length, Option, Some, None, Result, Ok, Err, bit_and}
+use Rattle.std.specs.Prelude.{◌≡◌, ℕ, false, ◌+◌, ◌==◌, if◌then◌else◌, List, length, Option, Some, None, Result, Ok, Err, bit_and}
 use Rattle.std.specs.Option.{option_map_or}
 use Rattle.wx_types.specs.declared.errors.Errno.{Errno}
 use Rattle.wx_types.specs.declared.errors.Errno.TheVariants.{Badf, Isdir, Notcapable}

@@ -1,5 +1,5 @@
 // Descriptions in a slab, with counts of the open ends of pipes.
-ghost use Rattle.std.specs.Prelude.{◌≡◌, ◌<◌, ◌≤◌, ◌+◌, ◌^◌, ◌↔◌, ◌⊎◌, ◌==◌, None, IsSome, IfSome, IsSomeAnd, IsTrue, IfOk, IfErr, OnOk, OnErr, option_copied};
+ghost use Rattle.std.specs.Prelude.{◌≡◌, ◌<◌, ◌≤◌, ◌+◌, ◌^◌, ◌↔◌, ◌⊎◌, ◌==◌, None, IsSome, IfSome, IsSomeAnd, IsTrue, IfOk, IfErr, OnErr, option_copied};
 ghost use Rattle.std.specs.FinMap.{empty, get as opened_at, remove, len};
 ghost use Rattle.open_desc.specs.Processes.{CountsStay};
 ghost use Rattle.open_desc.specs.Descriptions.{description_of, references_of, with_opened, after_open, after_share, released_kind, after_release, changed, with_flags, end_left};

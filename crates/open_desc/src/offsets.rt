@@ -1,6 +1,6 @@
 // The offset of a file, moved by a seek.
 ghost use Rattle.std.specs.Prelude.{◌≡◌, pos, ◌+ℤ◌};
-ghost use Rattle.open_desc.specs.Offsets.{base_of, offset_of, offset_from, sought, seek_answer, after_seek};
+ghost use Rattle.open_desc.specs.Offsets.{base_of, offset_of, sought, seek_answer, after_seek};
 
 use crate::description::{Description, Kind};
 use crate::descriptions::Descs;

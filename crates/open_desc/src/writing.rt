@@ -1,5 +1,5 @@
 // Writes by the kind of the description.
-ghost use Rattle.std.specs.Prelude.{◌≡◌, None, Some, length};
+ghost use Rattle.std.specs.Prelude.{◌≡◌, None, Some};
 ghost use Rattle.std.specs.Option.{option_copied_mut};
 ghost use Rattle.file_tree.specs.Files.{write_at};
 ghost use Rattle.open_desc.specs.Descriptions.{description_of};

@@ -1,5 +1,5 @@
 // The bytes of a pipe, and its two ends.
-ghost use Rattle.std.specs.Prelude.{◌≡◌, ◌≤◌, ◌==◌, [], length, drop, ◌++◌, IfOk, OnOk};
+ghost use Rattle.std.specs.Prelude.{◌≡◌, ◌≤◌, ◌==◌, [], length, drop, ◌++◌, IfOk};
 ghost use Rattle.pipes.specs.PipeRows.{room, push_of, after_push, pull_of, delivered, after_pull, given};
 ghost use Rattle.pipes.specs.Transfers.{Conserves};
 

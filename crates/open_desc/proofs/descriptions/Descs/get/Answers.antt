@@ -1,6 +1,5 @@
-use Rattle.std.proofs.Common.{◌≡◌, ap, sym, ◌∙◌}
+use Rattle.std.proofs.Common.{ap, sym, ◌∙◌}
 use Rattle.std.specs.Option.{option_map}
-use Rattle.std.specs.FinMap.{get}
 use Rattle.fd_table.proofs.PlaceLemmas.{get-by_place}
 use Rattle.open_desc.specs.Descriptions.{description_of}
 use Rattle.open_desc.specs.declared.description.Opened.{Opened}

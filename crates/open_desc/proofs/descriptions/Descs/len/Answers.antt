@@ -1,4 +1,4 @@
-use Rattle.std.proofs.Common.{◌≡◌, ap, sym, ◌∙◌, arith}
+use Rattle.std.proofs.Common.{ap, sym, ◌∙◌, arith}
 use Rattle.std.specs.FinMap.{len}
 use Rattle.open_desc.proofs.SlabLemmas.{len-by_place}
 use Rattle.open_desc.proofs.descriptions.Descs.len.Goals as goal

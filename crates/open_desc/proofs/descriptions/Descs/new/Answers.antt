@@ -1,4 +1,4 @@
-use Rattle.std.proofs.Common.{◌≡◌, ℕ, Option, None, List, [], get_or, ap, sym, subst}
+use Rattle.std.proofs.Common.{◌≡◌, Option, None, List, [], get_or, ap, sym, subst}
 use Rattle.std.specs.FinMap.{empty}
 use Rattle.fd_table.specs.Places.{by_place}
 use Rattle.fd_table.proofs.PlaceLemmas.{by_place-none}

@@ -1,4 +1,4 @@
-use Rattle.std.proofs.Common.{◌≡◌, ℕ, ◌+◌, ◌<◌, true, false, List, Option, Some, None, arith, ap, sym, refl, subst, ◌∙◌}
+use Rattle.std.proofs.Common.{◌≡◌, ℕ, ◌+◌, true, false, None, arith, ap, sym, subst, ◌∙◌}
 use Rattle.std.specs.FinMap.{get, len, insert}
 use Rattle.slab.specs.Slab.{Slab, get as value_at}
 use Rattle.fd_table.specs.Places.{by_place}

@@ -1,4 +1,4 @@
-use Rattle.std.proofs.Common.{◌≡◌, ap, sym, ◌∙◌}
+use Rattle.std.proofs.Common.{ap, sym, ◌∙◌}
 use Rattle.std.specs.FinMap.{get}
 use Rattle.fd_table.proofs.PlaceLemmas.{get-by_place}
 use Rattle.open_desc.proofs.descriptions.Descs.opened.Goals as goal

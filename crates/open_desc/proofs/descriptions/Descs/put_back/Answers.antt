@@ -1,6 +1,5 @@
-use Rattle.std.proofs.Common.{◌≡◌, ℕ, List, Option, Some, None, ap, sym, refl, subst, ◌∙◌}
-use Rattle.std.specs.FinMap.{get, insert}
-use Rattle.fd_table.specs.Places.{by_place}
+use Rattle.std.proofs.Common.{ap, sym, subst, ◌∙◌}
+use Rattle.std.specs.FinMap.{get}
 use Rattle.fd_table.proofs.PlaceLemmas.{get-by_place}
 use Rattle.open_desc.specs.Codes.{Opens}
 use Rattle.open_desc.specs.Descriptions.{with_opened}

@@ -1,5 +1,4 @@
-use Rattle.std.proofs.Common.{◌≡◌, Some, length, subst}
-use Rattle.wx_types.specs.declared.errors.Errno.{Errno}
+use Rattle.std.proofs.Common.{Some, length, subst}
 use Rattle.open_desc.specs.Reading.{read_usable, Reads}
 use Rattle.open_desc.proofs.KindLemmas.{read_held_apart}
 use Rattle.open_desc.proofs.descriptions.Descs.read_held.Goals as goal

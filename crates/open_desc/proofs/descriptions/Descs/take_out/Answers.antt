@@ -1,4 +1,4 @@
-use Rattle.std.proofs.Common.{◌≡◌, ℕ, true, false, List, Option, Some, None, ap, sym, refl, subst, ◌∙◌}
+use Rattle.std.proofs.Common.{true, false, ap, sym, subst, ◌∙◌}
 use Rattle.std.specs.FinMap.{get, remove}
 use Rattle.fd_table.proofs.PlaceLemmas.{get-by_place}
 use Rattle.open_desc.specs.Codes.{Opens}

@@ -1,4 +1,4 @@
-use Rattle.std.proofs.Common.{◌≡◌, Some, subst}
+use Rattle.std.proofs.Common.{Some, subst}
 use Rattle.open_desc.specs.Writing.{write_usable, unwritten, Writes}
 use Rattle.open_desc.proofs.KindLemmas.{written_held_apart}
 use Rattle.open_desc.proofs.descriptions.Descs.write_held.Goals as goal
