@@ -6,7 +6,9 @@ use Rattle.file_tree.specs.FileTree.{FileTree}
 use Rattle.pack_list.specs.Lines.{Line, Directory, File, lines, line_of}
 use Rattle.pack_list.specs.Cuts.{Cuts}
 use Rattle.pack_list.specs.Judging.{Named, Judged, made_of, names_of, judge_line, behind, and_then, judge_lines}
-use Rattle.pack_list.specs.Answers.{JudgesLine}
+use Rattle.std.proofs.lemmas.List.{map_push}
+use Rattle.pack_list.specs.declared.judging.Named.{Named as NamedFile}
+use Rattle.pack_list.specs.Answers.{JudgesLine, TakesLine, seen}
 use Rattle.pack_list.specs.Made.{Makes}
 use Rattle.pack_list.specs.declared.judging.LineFault.{LineFault}
 use Rattle.pack_list.specs.declared.judging.LineFault.TheVariants.{Wrong, Memory}
@@ -68,3 +70,12 @@ pub no_more : (number : ℕ) (tree : FileTree) (rest : List ℕ) (files : List N
 unfolding judge_lines
 no_more number tree rest files all none so_far =
     sym so_far ∙ ap (λ (r : List ℕ). behind files (judge_lines number tree (lines r))) none ∙ ap (λ (f : List Named). Ok (record { tree = tree; files = f })) (append-nil files)
+
+-- ---- one line taken
+
+pub line_fault_taken : (given : Option Judged) (fault : LineFault) (new : FileTree) (old_files new_files : List NamedFile) → JudgesLine given (Err fault) new → TakesLine given (Err fault) new old_files new_files
+line_fault_taken given Wrong new old_files new_files judged = judged
+line_fault_taken given Memory new old_files new_files judged = tt
+
+pub file_taken : (given : Option Judged) (named : NamedFile) (new : FileTree) (old_files new_files : List NamedFile) → JudgesLine given (Ok (Some named)) new → new_files ≡ old_files ++ named ∷ [] → TakesLine given (Ok tt) new old_files new_files
+file_taken given named new old_files new_files judged pushed = (seen named ∷ [], judged, ap (map seen) pushed ∙ map_push seen old_files named)

@@ -1,5 +1,5 @@
 -- What judging answers, against what the definitions give.
-use Rattle.std.specs.Prelude.{◌≡◌, ℕ, List, [], ◌∷◌, map, Option, Some, None, Result, Ok, Err}
+use Rattle.std.specs.Prelude.{◌≡◌, ℕ, List, [], ◌∷◌, ◌++◌, map, Option, Some, None, Result, Ok, Err}
 use Rattle.file_tree.specs.FileTree.{FileTree}
 use Rattle.pack_list.specs.Judging as list
 use Rattle.pack_list.specs.declared.fault.ListFault.{ListFault}
@@ -32,3 +32,10 @@ abbrev pub JudgesLine : Option list.Judged → Result (Option Named) LineFault �
 JudgesLine given (Ok named) new = given ≡ Some (record { tree = new; files = named_files named })
 JudgesLine given (Err WrongLine) new = given ≡ None
 JudgesLine given (Err NoMemory) new = Unit {0}
+
+-- the same of one line, whose file, if any, was put behind the others
+abbrev pub TakesLine : Option list.Judged → Result (Unit {0}) LineFault → FileTree → List Named → List Named → Type 0
+TakesLine given (Ok x) new old_files new_files =
+    (added : List list.Named) × (given ≡ Some (record { tree = new; files = added })) × (map seen new_files ≡ map seen old_files ++ added)
+TakesLine given (Err WrongLine) new old_files new_files = given ≡ None
+TakesLine given (Err NoMemory) new old_files new_files = Unit {0}

@@ -4,7 +4,7 @@ ghost use Rattle.std.specs.Option.{option_copied};
 ghost use Rattle.pack_list.specs.Judging.{judge, judge_line, judge_lines, made_of};
 ghost use Rattle.pack_list.specs.Lines.{lines};
 ghost use Rattle.pack_list.specs.Cuts as cuts;
-ghost use Rattle.pack_list.specs.Answers.{Judges, JudgesLine};
+ghost use Rattle.pack_list.specs.Answers.{Judges, JudgesLine, TakesLine};
 ghost use Rattle.pack_list.specs.Made.{Makes};
 
 use crate::fault::ListFault;
@@ -93,6 +93,26 @@ fn judge_line<'a>(
     }
 }
 
+// makes what a line says, and puts the file whose bytes it names, if any, behind the others
+fn take_line<'a>(
+    alloc: Global,
+    number: u32,
+    tree: &mut Tree,
+    line: &'a [u8],
+    files: &mut Vec<Named<'a>>,
+) -> Result<(), LineFault>
+    ensures { TakesLine (judge_line number tree.old line.now) result tree.new files.old.items files.new.items }
+{
+    match judge_line(alloc, number, tree, line) {
+        Ok(None) => Ok(()),
+        Ok(Some(named)) => match files.push(named) {
+            Ok(()) => Ok(()),
+            Err(_) => Err(LineFault::Memory),
+        },
+        Err(fault) => Err(fault),
+    }
+}
+
 // what stands behind a line, nothing where it is the last
 fn rest_of(more: Option<&[u8]>) -> &[u8]
     ensures { result.now ≡ unwrap_or (option_copied more.entry) [] }
@@ -114,12 +134,8 @@ fn judge_lines<'a>(alloc: Global, tree: Tree, text: &'a [u8]) -> Result<PackList
     let mut number = 1u32;
     'lines: while !rest.is_empty() {
         let (line, more) = cut(rest, b'\n');
-        match judge_line(alloc, number, &mut tree, line) {
-            Ok(Some(named)) => match files.push(named) {
-                Ok(()) => {}
-                Err(_) => return Err(ListFault::Memory),
-            },
-            Ok(None) => {}
+        match take_line(alloc, number, &mut tree, line, &mut files) {
+            Ok(()) => {}
             Err(LineFault::Wrong) => return Err(ListFault::Wrong(number)),
             Err(LineFault::Memory) => return Err(ListFault::Memory),
         }
