@@ -1,5 +1,5 @@
 // The image of a list's tree, written to the shelf.
-ghost use Rattle.std.specs.Prelude.{◌≡◌, ◌≤◌, ℕ, map, length, IfOk, IfErr, OnOk, Some};
+ghost use Rattle.std.specs.Prelude.{◌≡◌, ◌≤◌, ◌<◌, ℕ, map, length, slice_get, IfOk, IfErr, OnOk, Some};
 ghost use Rattle.wx_types.specs.Files.{Files, told_file};
 ghost use Rattle.pack_list.specs.Answers.{seen};
 ghost use Rattle.wasix_run.specs.Loading.{Counts};
@@ -61,6 +61,14 @@ fn put<H: Shelf>(
     }
 }
 
+// the file at a place of the list
+fn named_at<'a>(files: &[Named<'a>], index: usize) -> Named<'a>
+    requires { index < length files.now }
+    ensures { slice_get files.now index ≡ Some result }
+{
+    files[index]
+}
+
 // the tree with the bytes of all its files
 fn fill<H: Shelf>(
     alloc: Global,
@@ -76,8 +84,9 @@ fn fill<H: Shelf>(
     ensures fault { IfErr result (λ reason. Counts reason (H.faults shelf.old) (H.faults shelf.new)) }
 {
     let mut tree = tree;
-    'files: for file in files {
-        match put(alloc, shelf, &mut tree, file) {
+    'files: for index in 0..files.len() {
+        let file = named_at(files, index);
+        match put(alloc, shelf, &mut tree, &file) {
             Ok(()) => {}
             Err(reason) => return Err(reason),
         }
