@@ -5,7 +5,7 @@ use Rattle.std.proofs.lemmas.List.{append_assoc, length-reverse, reverse-append}
 use Rattle.wasm_ast.specs.declared.types.ValType.{ValType}
 use Rattle.wasm_ast.specs.declared.types.ValType.TheVariants.{I32, I64, F32, F64}
 use Rattle.wasm_ast.specs.Types.{same_type}
-use Rattle.wasm_ast.specs.Typing.{Context, Labels, Operands, after, applied, function_type, given, is_aligned, leaves, popped, taken, typed}
+use Rattle.wasm_ast.specs.Typing.{Context, Labels, Operands, after, applied, function_type, push_operands, is_aligned, leaves, pop_expected, pop_operands, typed}
 use Rattle.wasm_ast.specs.Operators.{access_operands, access_results}
 use Rattle.wasm_ast.specs.declared.types.FuncType.{FuncType}
 use Rattle.wasm_ast.specs.declared.instr.Instr.{Instr}
@@ -44,24 +44,24 @@ if_some : {A : Type 0} (test : Bool) (x y : A) → cond test (Some x) None ≡ S
 if_some true x y e = (refl, (cc))
 if_some false x y e = absurd (cc)
 
--- operands of known types: one that is popped stands last among them
-popped_known : (t : ValType) (types : List ValType) (u : Operands) → popped t (operands_of types) ≡ Some u → (rest : List ValType) × (types ≡ t ∷ rest) × (u ≡ operands_of rest)
+-- operands of known types: one that is pop_expected stands last among them
+popped_known : (t : ValType) (types : List ValType) (u : Operands) → pop_expected t (operands_of types) ≡ Some u → (rest : List ValType) × (types ≡ t ∷ rest) × (u ≡ operands_of rest)
 popped_known t [] u e = absurd (cc)
 popped_known t (x ∷ xs) u e =
     let test = if_some (same_type x t) (operands_of xs) u e in
     (xs, ap (λ y. y ∷ xs) (same_types x t test.0), sym test.1)
 
-pub taken_known : (ps types : List ValType) (u : Operands) → taken ps (operands_of types) ≡ Some u → (rest : List ValType) × (types ≡ reverse ps ++ rest) × (u ≡ operands_of rest)
+pub taken_known : (ps types : List ValType) (u : Operands) → pop_operands ps (operands_of types) ≡ Some u → (rest : List ValType) × (types ≡ reverse ps ++ rest) × (u ≡ operands_of rest)
 taken_known [] types u e = (types, refl, (cc))
 taken_known (t ∷ ts) types u e =
-    let first = bind_some (popped t) (taken ts (operands_of types)) u e in
+    let first = bind_some (pop_expected t) (pop_operands ts (operands_of types)) u e in
     let before = taken_known ts types first.0 first.1 in
-    let last = popped_known t before.0 u (subst (λ s. popped t s ≡ Some u) before.2 first.2) in
+    let last = popped_known t before.0 u (subst (λ s. pop_expected t s ≡ Some u) before.2 first.2) in
     let turned : reverse (t ∷ ts) ++ last.0 ≡ reverse ts ++ (t ∷ last.0) =
     ap (λ zs. zs ++ last.0) (reverse-append (t ∷ []) ts) ∙ append_assoc (reverse ts) (t ∷ []) last.0 in
     (last.0, before.1 ∙ ap (λ zs. reverse ts ++ zs) last.1 ∙ sym turned, last.2)
 
-pub given_known : (rs types : List ValType) → given rs (operands_of types) ≡ operands_of (reverse rs ++ types)
+pub given_known : (rs types : List ValType) → push_operands rs (operands_of types) ≡ operands_of (reverse rs ++ types)
 given_known [] types = refl
 given_known (t ∷ ts) types =
     given_known ts (t ∷ types)
@@ -71,7 +71,7 @@ if_true : {A : Type 0} (test : Bool) (o : Option A) (y : A) → cond test o None
 if_true true o y e = e
 if_true false o y e = absurd (cc)
 
--- the values under those that are taken have the types under theirs
+-- the values under those that are pop_operands have the types under theirs
 pub have_drop : (ts us : List ValType) (vs : List ℕ) → HaveTypes (ts ++ us) vs → HaveTypes us (drop (length ts) vs)
 have_drop [] us vs h = h
 have_drop (t ∷ ts) us [] h = absurd h
@@ -81,21 +81,21 @@ bind_id : {A : Type 0} (o : Option A) → o ≡ option_and_then (λ x. Some x) o
 bind_id None = refl
 bind_id (Some x) = refl
 
-bind_bind : (p : ValType) (ps : List ValType) (o : Option Operands) → option_and_then (popped p) (option_and_then (taken ps) o) ≡ option_and_then (taken (p ∷ ps)) o
+bind_bind : (p : ValType) (ps : List ValType) (o : Option Operands) → option_and_then (pop_expected p) (option_and_then (pop_operands ps) o) ≡ option_and_then (pop_operands (p ∷ ps)) o
 bind_bind p ps None = refl
 bind_bind p ps (Some x) = refl
 
-taken-append : (ps : List ValType) (t : ValType) (s : Operands) → taken (ps ++ t ∷ []) s ≡ option_and_then (taken ps) (popped t s)
-taken-append [] t s = bind_id (popped t s)
-taken-append (p ∷ ps) t s = ap (option_and_then (popped p)) (taken-append ps t s) ∙ bind_bind p ps (popped t s)
+pop_operands-append : (ps : List ValType) (t : ValType) (s : Operands) → pop_operands (ps ++ t ∷ []) s ≡ option_and_then (pop_operands ps) (pop_expected t s)
+pop_operands-append [] t s = bind_id (pop_expected t s)
+pop_operands-append (p ∷ ps) t s = ap (option_and_then (pop_expected p)) (pop_operands-append ps t s) ∙ bind_bind p ps (pop_expected t s)
 
 -- what such an instruction takes and gives
 abbrev pub Applies : List ValType → List ValType → Operands → Operands → Type 0
-Applies ps rs s u = (a : Operands) × (taken ps s ≡ Some a) × (u ≡ given rs a)
+Applies ps rs s u = (a : Operands) × (pop_operands ps s ≡ Some a) × (u ≡ push_operands rs a)
 
 applies : (ps rs : List ValType) (s u : Operands) → applied ps rs s ≡ Some u → Applies ps rs s u
 applies ps rs s u e =
-    let t = bind_some (λ a. Some (given rs a)) (taken ps s) u e in
+    let t = bind_some (λ a. Some (push_operands rs a)) (pop_operands ps s) u e in
     (t.0, t.1, (cc t.2))
 
 abbrev IsPair : List ValType × List ValType → List ValType × List ValType → Type 0
@@ -115,12 +115,12 @@ answered_applies c labels (instr.Call x) s u ps rs types e =
     let its : IsPair (f.0.params, f.0.results) (ps, rs) = rw f.1 at types in
     same_pair (f.0.params, f.0.results) (ps, rs) s u its (applies f.0.params f.0.results s u f.2)
 answered_applies c labels (instr.CallIndirect t) s u ps rs types e =
-    let all = if_true (nat_lt 0 c.tables) (option_and_then (λ (g : FuncType). option_and_then (λ a. applied g.params g.results a) (popped I32 s)) (slice_get c.types t)) u e in
-    let f = bind_some (λ (g : FuncType). option_and_then (λ a. applied g.params g.results a) (popped I32 s)) (slice_get c.types t) u all in
+    let all = if_true (nat_lt 0 c.tables) (option_and_then (λ (g : FuncType). option_and_then (λ a. applied g.params g.results a) (pop_expected I32 s)) (slice_get c.types t)) u e in
+    let f = bind_some (λ (g : FuncType). option_and_then (λ a. applied g.params g.results a) (pop_expected I32 s)) (slice_get c.types t) u all in
     let its : IsPair (f.0.params ++ I32 ∷ [], f.0.results) (ps, rs) = rw f.1 at types in
-    let number = bind_some (λ a. applied f.0.params f.0.results a) (popped I32 s) u f.2 in
+    let number = bind_some (λ a. applied f.0.params f.0.results a) (pop_expected I32 s) u f.2 in
     let call = applies f.0.params f.0.results number.0 u number.2 in
-    let whole : taken (f.0.params ++ I32 ∷ []) s ≡ Some call.0 = taken-append f.0.params I32 s ∙ ap (option_and_then (taken f.0.params)) number.1 ∙ call.1 in
+    let whole : pop_operands (f.0.params ++ I32 ∷ []) s ≡ Some call.0 = pop_operands-append f.0.params I32 s ∙ ap (option_and_then (pop_operands f.0.params)) number.1 ∙ call.1 in
     same_pair (f.0.params ++ I32 ∷ [], f.0.results) (ps, rs) s u its (call.0, whole, call.2)
 answered_applies c labels (instr.Access op arg) s u ps rs types e =
     let test = if_true (nat_lt 0 c.memories && is_aligned op arg.align) (applied (access_operands op) (access_results op) s) u e in
@@ -150,7 +150,7 @@ answered_fits_frame m f count value at fits =
     let effect = answered_applies c fits.takes at.i s first.0 at.params at.results (at.its_types c fits.its_context) first.1 in
     let known = taken_known at.params here.types effect.0 effect.1 in
     let others : List ValType = known.0 in
-    let behind_it : first.0 ≡ operands_of (reverse at.results ++ others) = effect.2 ∙ ap (given at.results) known.2 ∙ given_known at.results others in
+    let behind_it : first.0 ≡ operands_of (reverse at.results ++ others) = effect.2 ∙ ap (push_operands at.results) known.2 ∙ given_known at.results others in
     let values : HaveTypes (reverse at.params ++ others) f.operands = subst (λ ts. HaveTypes ts f.operands) known.1 here.values in
     let size : length (reverse at.params) ≡ over_arguments f.code + count = length-reverse at.params ∙ at.takes in
     let kept : HaveTypes others (drop (over_arguments f.code + count) f.operands) = rw size at (have_drop (reverse at.params) others f.operands values) in

@@ -11,7 +11,7 @@ use Rattle.wasm_ast.specs.declared.instr.Instr.TheVariants as instr
 use Rattle.wasm_ast.specs.declared.types.ValType.TheVariants.{I32}
 use Rattle.wasm_ast.specs.Operators.{access_operands, access_results}
 use Rattle.wasm_ast.specs.Sequence.{Sequence, Plain}
-use Rattle.wasm_ast.specs.Typing.{Context, Labels, function_type, Operands, given, leaves, typed}
+use Rattle.wasm_ast.specs.Typing.{Context, Labels, function_type, Operands, push_operands, leaves, typed}
 use Rattle.wasm_ast.specs.TypingModule.{context_of, in_function}
 use Rattle.guest_state.specs.GuestThread.{Label, Frame, GuestThread}
 use Rattle.guest_state.specs.Module.{type_bits, type_of}
@@ -38,13 +38,13 @@ local_types c = c.params ++ group_types c.locals
 
 -- operands of these types, the last one first
 abbrev pub operands_of : List ValType → Operands
-operands_of types = record { marked = false; types = map Some types }
+operands_of types = record { unreachable = false; types = map Some types }
 
 -- The code is typed over the operands, once a value that is waited for stands above them, and leaves exactly that type.
 pub record FitsCode (c : Context) (labels : Labels) (leaves_type awaited : Option ValType) (operands : List ℕ) (code : Sequence) : Type 0 where
   pub types : List ValType
   pub values : HaveTypes types operands
-  pub code_typed : leaves leaves_type (typed c labels code (given (option_to_list awaited) (operands_of types))) ≡ true
+  pub code_typed : leaves leaves_type (typed c labels code (push_operands (option_to_list awaited) (operands_of types))) ≡ true
 
 -- A label that takes a type: behind the block, which leaves a type, and where a branch goes on, the code is typed over the
 -- operands there. The block around it leaves another type.
