@@ -118,7 +118,7 @@ fn spelled(alloc: Global, parts: &str) -> Result<Vec<u8>> {
     Ok(bytes)
 }
 
-fn found(alloc: Global, kind: &str, bytes: &[u8]) -> Result<Found, AllocError> {
+fn come_of(alloc: Global, kind: &str, bytes: &[u8]) -> Result<Found, AllocError> {
     if kind == "list" {
         list(alloc, bytes)
     } else {
@@ -134,7 +134,7 @@ fn print_case(rt: &(impl Print + AllocGlobal), line: &str) -> Result<()> {
         return Err(anyhow::anyhow!("no kind"));
     };
     let bytes = spelled(rt.alloc(), parts)?;
-    match found(rt.alloc(), kind, bytes.as_slice())? {
+    match come_of(rt.alloc(), kind, bytes.as_slice())? {
         Found::Image(digits) => println!(rt; "{name}: image {digits}")?,
         Found::Count(count) => println!(rt; "{name}: image of {count} bytes")?,
         Found::NotImage => println!(rt; "{name}: no image")?,
