@@ -1,0 +1,8 @@
+pub mod Table
+pub mod Stepped
+pub mod Control
+pub mod Variable
+pub mod Numeric
+pub mod Memory
+pub mod Atomic
+pub mod Step

@@ -1,0 +1,46 @@
+-- The table of a module (WebAssembly Core 1.0, 4.2.7 and 4.5.4): no instruction changes it after the element segments were
+-- written, so the module has it.
+use Rattle.std.specs.Prelude.{ℕ, ◌-◌, nat_lt, nat_le, Bool, true, false, ◌&&◌, if◌then◌else◌, List, [], ◌∷◌, ◌++◌, slice_get, Option, Some, None, option_and_then}
+use Rattle.wasm_ast.specs.declared.types.ValType.{ValType}
+use Rattle.wasm_ast.specs.declared.types.FuncType.{FuncType}
+use Rattle.wasm_ast.specs.declared.types.Limits.{Limits}
+use Rattle.wasm_ast.specs.declared.module.Element.{Element}
+use Rattle.wasm_ast.specs.declared.module.Module.{Module}
+use Rattle.wasm_ast.specs.Types.{same_type}
+use Rattle.wasm_ast.specs.TypingModule.{functions_of}
+use Rattle.guest_state.specs.Module.{constant_value}
+
+-- how many elements the table has
+abbrev pub first_size : List Limits → ℕ
+first_size [] = 0
+first_size (l ∷ ls) = l.min
+
+abbrev pub table_size : Module → ℕ
+table_size m = first_size m.tables
+
+-- the function that a segment puts at a place, if any
+abbrev pub put_at : Element → ℕ → Option ℕ
+put_at e i = if nat_le (constant_value e.offset) i then slice_get e.functions (i - constant_value e.offset) else None
+
+abbrev pub or_else : Option ℕ → Option ℕ → Option ℕ
+or_else None y = y
+or_else (Some x) y = Some x
+
+-- the function that segments put at a place: that of the last one counts
+abbrev pub last_put : List Element → ℕ → Option ℕ
+last_put [] i = None
+last_put (e ∷ es) i = or_else (last_put es i) (put_at e i)
+
+-- the type of the function of that index
+abbrev pub function_type : Module → ℕ → Option FuncType
+function_type m x = option_and_then (slice_get m.types) (slice_get (functions_of m.imports ++ m.functions) x)
+
+-- equal types, element by element
+abbrev pub same_types : List ValType → List ValType → Bool
+same_types [] [] = true
+same_types [] (u ∷ us) = false
+same_types (t ∷ ts) [] = false
+same_types (t ∷ ts) (u ∷ us) = same_type t u && same_types ts us
+
+abbrev pub same_function_type : FuncType → FuncType → Bool
+same_function_type f g = same_types f.params g.params && same_types f.results g.results
