@@ -6,7 +6,7 @@ use Rattle.wx_types.specs.declared.requests.Request.{Request}
 use Rattle.wx_types.specs.declared.entries.Entry.{Entry}
 use Rattle.wasm_decode.specs.ThinModule.{ThinModule}
 use Rattle.wasm_decode.specs.ThinGrammar.{SpellsThin}
-use Rattle.interp.specs.Step.{step, after}
+use Rattle.thin_interp.specs.Step.{step, after}
 use Rattle.runner.specs.Process.{Process}
 use Rattle.runner.specs.Asked.{Asked, fuel_left, request_at}
 use Rattle.runner.specs.Kernel.{Kernel, End}

@@ -2,8 +2,8 @@
 use Rattle.std.proofs.Common.{◌≡◌, ℕ, zero, suc, ◌+◌, Option, Some, sym, ap, ◌∙◌, arith, zero-add}
 use Rattle.wasm_decode.specs.ThinModule.{ThinModule}
 use Rattle.linear_memory.specs.LinearMemory.{LinearMemory}
-use Rattle.interp.specs.GuestThread.{GuestThread}
-use Rattle.interp.specs.Step.{Stepped, Next, AtCall, Finished, Stuck, step, onward, after}
+use Rattle.thin_interp.specs.GuestThread.{GuestThread}
+use Rattle.thin_interp.specs.Step.{Stepped, Next, AtCall, Finished, Stuck, step, onward, after}
 use Rattle.runner.specs.Asked.{EndsSlice}
 
 -- a memory and a thread

@@ -8,11 +8,11 @@ use Rattle.wx_types.specs.declared.entries.Outcome.TheVariants.{Ended as EndedOu
 use Rattle.wasm_decode.specs.ThinModule.{ThinModule, takes}
 use Rattle.wasm_decode.specs.declared.thin.ThinImport.{ThinImport}
 use Rattle.wasm_decode.specs.declared.thin.ThinImport.TheVariants.{ProcExit, FdWrite}
-use Rattle.interp.specs.declared.thread.Stop.TheVariants.{Call, Finished as Returned}
+use Rattle.thin_interp.specs.declared.thread.Stop.TheVariants.{Call, Finished as Returned}
 use Rattle.linear_memory.specs.LinearMemory.{LinearMemory}
-use Rattle.interp.specs.GuestThread.{GuestThread, arguments, answered}
-use Rattle.interp.specs.Step.{Stepped, Next, AtCall, Finished, Stuck, step, after}
-use Rattle.interp.specs.Stops.{StopsAs}
+use Rattle.thin_interp.specs.GuestThread.{GuestThread, arguments, answered}
+use Rattle.thin_interp.specs.Step.{Stepped, Next, AtCall, Finished, Stuck, step, after}
+use Rattle.thin_interp.specs.Stops.{StopsAs}
 use Rattle.runner.specs.Process.{Process}
 use Rattle.wasix_abi.specs.Requests.{nine_words, request_of}
 use Rattle.wasix_abi.specs.Replies.{apply_reply}
@@ -23,7 +23,7 @@ use Rattle.runner.proofs.Maps.{get-insert_same, thread_cmp_total}
 use Rattle.runner.proofs.Console.{write_answer}
 use Rattle.std.proofs.lemmas.Cmp.{nat_cmp_total}
 use Rattle.std.specs.Ordering.{nat_cmp}
-use Rattle.interp.specs.Left.{steps_left}
+use Rattle.thin_interp.specs.Left.{steps_left}
 use Rattle.runner.specs.Kernel.{Kernel, End, Exited, Handed, Fresh}
 use Rattle.runner.specs.Answer.{answer, risen, end_process}
 use Rattle.runner.specs.World.{World, Replies}

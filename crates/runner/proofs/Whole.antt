@@ -7,8 +7,8 @@ use Rattle.wx_types.specs.Entry.{entry_weight}
 use Rattle.wasm_decode.specs.ThinModule.{ThinModule}
 use Rattle.wasm_decode.specs.ThinGrammar.{SpellsThin}
 use Rattle.linear_memory.specs.LinearMemory.{LinearMemory}
-use Rattle.interp.specs.GuestThread.{GuestThread, started}
-use Rattle.interp.specs.Left.{steps_left}
+use Rattle.thin_interp.specs.GuestThread.{GuestThread, started}
+use Rattle.thin_interp.specs.Left.{steps_left}
 use Rattle.std.specs.FinMap.{empty}
 use Rattle.runner.specs.declared.one.Why.{Why}
 use Rattle.runner.specs.declared.one.Why.TheVariants.{Exited as ExitedWhy, Memory as MemoryWhy}

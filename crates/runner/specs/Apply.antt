@@ -5,7 +5,7 @@ use Rattle.std.specs.FinMap.{FinMap, get, insert, remove}
 use Rattle.wx_types.specs.declared.requests.Request.{Request}
 use Rattle.wx_types.specs.declared.entries.Outcome.{Outcome}
 use Rattle.wx_types.specs.declared.entries.Outcome.TheVariants.{Reply, Wait, Image, Fork, Spawn, Ended, Gone}
-use Rattle.interp.specs.GuestThread.{GuestThread, answered}
+use Rattle.thin_interp.specs.GuestThread.{GuestThread, answered}
 use Rattle.wasix_abi.specs.Requests.{argument_count}
 use Rattle.wasix_abi.specs.Replies.{apply_reply}
 use Rattle.runner.specs.Process.{Process}

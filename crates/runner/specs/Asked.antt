@@ -8,8 +8,8 @@ use Rattle.wasm_decode.specs.declared.thin.ThinImport.{ThinImport}
 use Rattle.wasm_decode.specs.declared.thin.ThinImport.TheVariants.{ProcExit, FdWrite}
 use Rattle.wasix_abi.specs.Requests.{last_return, fd_write, proc_exit, plain_request, request_of}
 use Rattle.linear_memory.specs.LinearMemory.{LinearMemory}
-use Rattle.interp.specs.GuestThread.{GuestThread, arguments}
-use Rattle.interp.specs.Step.{Stepped, Next, AtCall, Finished, Stuck, step, after}
+use Rattle.thin_interp.specs.GuestThread.{GuestThread, arguments}
+use Rattle.thin_interp.specs.Step.{Stepped, Next, AtCall, Finished, Stuck, step, after}
 use Rattle.runner.specs.Process.{Process}
 
 -- the number of the call that an imported function is

@@ -5,7 +5,7 @@ use Rattle.std.specs.Cmp.Lexicographic.{slice_cmp}
 use Rattle.std.specs.FinMap.{FinMap, empty, insert, get}
 use Rattle.wasm_decode.specs.ThinModule.{ThinModule}
 use Rattle.wasm_decode.specs.ThinGrammar.{SpellsThin}
-use Rattle.interp.specs.GuestThread.{started}
+use Rattle.thin_interp.specs.GuestThread.{started}
 use Rattle.wasm_decode.specs.declared.thin.ThinMemory.{ThinMemory}
 use Rattle.wasm_decode.specs.Segment.{Segment}
 use Rattle.linear_memory.specs.LinearMemory.{LinearMemory, zero_pages, with_bytes}

@@ -10,11 +10,11 @@ use Rattle.wx_types.specs.declared.errors.Errno.TheVariants.{Badf, Isdir, Notcap
 use Rattle.wasix_abi.specs.Requests.{fd_write, request_of}
 use Rattle.wasix_abi.specs.Replies.{apply_reply}
 use Rattle.wasm_decode.specs.ThinModule.{ThinModule}
-use Rattle.interp.specs.GuestThread.{GuestThread, Snapshot, thread_of}
-use Rattle.interp.specs.Fits.{Fits}
+use Rattle.thin_interp.specs.GuestThread.{GuestThread, Snapshot, thread_of}
+use Rattle.thin_interp.specs.Fits.{Fits}
 use Rattle.runner.specs.Process.{Process}
 use Rattle.linear_memory.specs.LinearMemory.{LinearMemory}
-use Rattle.interp.specs.Left.{steps_left, calls_left}
+use Rattle.thin_interp.specs.Left.{steps_left, calls_left}
 use Rattle.runner.specs.Kernel.{Handed, Fresh, Exited}
 use Rattle.runner.specs.World.{World, Leads}
 use Rattle.runner.specs.Boot.{Boot, Loads, first_descriptors, first_descriptions}

@@ -4,7 +4,7 @@ use Rattle.std.specs.Ordering.{nat_cmp}
 use Rattle.std.specs.FinMap.{FinMap}
 use Rattle.wasm_decode.specs.ThinModule.{ThinModule}
 use Rattle.linear_memory.specs.LinearMemory.{LinearMemory}
-use Rattle.interp.specs.GuestThread.{GuestThread}
+use Rattle.thin_interp.specs.GuestThread.{GuestThread}
 
 pub record Process : Type 0 where
   pub memory : LinearMemory

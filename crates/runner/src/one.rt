@@ -2,11 +2,11 @@
 ghost use Rattle.std.specs.Prelude.{◌≡◌, ◌+◌, ◌*◌, ◌≤◌, ◌<◌, ◌^◌, ◌↔◌, ℕ, OnOk, slice_get, ◌∷◌, ◌++◌, ◌⊎◌, IfOk, IfSome, IfNone, Some, None, true, length, []};
 ghost use Rattle.wx_types.specs.Entry.{entry_weight};
 ghost use Rattle.linear_memory.specs.LinearMemory.{LinearMemory};
-ghost use Rattle.interp.specs.GuestThread.{thread_of, arguments, answered, started};
-ghost use Rattle.interp.specs.Step.{step};
-ghost use Rattle.interp.specs.Stops.{StopsAs};
-ghost use Rattle.interp.specs.Fits.{Fits};
-ghost use Rattle.interp.specs.Left.{steps_left, calls_left};
+ghost use Rattle.thin_interp.specs.GuestThread.{thread_of, arguments, answered, started};
+ghost use Rattle.thin_interp.specs.Step.{step};
+ghost use Rattle.thin_interp.specs.Stops.{StopsAs};
+ghost use Rattle.thin_interp.specs.Fits.{Fits};
+ghost use Rattle.thin_interp.specs.Left.{steps_left, calls_left};
 ghost use Rattle.runner.specs.Boot.{Boot, boot_world, first_memory};
 ghost use Rattle.runner.specs.Kernel.{End, Exited};
 ghost use Rattle.runner.specs.World.{World};
@@ -17,10 +17,10 @@ ghost use Rattle.runner.specs.OneProcess.{StandsAt, LeadsToEnd, LeadsOn, Begins,
 
 use crate::instance::instantiate;
 use crate::journal::Journal;
-use interp::advance::advance;
-use interp::thread::{Stop, Thread};
 use linear_memory::Memory;
 use std::alloc::{AllocError, Global};
+use thin_interp::advance::advance;
+use thin_interp::thread::{Stop, Thread};
 use wasix_abi::{apply, request_laws, request_of};
 use wasm_decode::{Thin, ThinImport, one_thin_module};
 use wx_types::{Bytes, Entry, Errno, Outcome, Place, Request};

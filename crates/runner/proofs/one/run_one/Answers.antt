@@ -1,8 +1,8 @@
 use Rattle.std.proofs.Common.{◌≤◌, List, sym, subst, arith}
 use Rattle.wx_types.specs.declared.entries.Entry.{Entry}
 use Rattle.linear_memory.specs.LinearMemory.{LinearMemory}
-use Rattle.interp.specs.GuestThread.{GuestThread, thread_of}
-use Rattle.interp.specs.Left.{steps_left}
+use Rattle.thin_interp.specs.GuestThread.{GuestThread, thread_of}
+use Rattle.thin_interp.specs.Left.{steps_left}
 use Rattle.runner.specs.Boot.{boot_world, first_memory}
 use Rattle.runner.specs.Run.{Run}
 use Rattle.runner.specs.OneProcess.{StandsAt}

@@ -1,7 +1,7 @@
 use Rattle.std.proofs.Common.{◌≡◌, ◌≤◌, ◌+◌, List, inl, inr, refl, arith, sym, subst, ap, ◌∙◌}
 use Rattle.wx_types.specs.declared.entries.Entry.{Entry}
 use Rattle.wx_types.specs.Entry.{entry_weight}
-use Rattle.interp.specs.GuestThread.{GuestThread, thread_of}
+use Rattle.thin_interp.specs.GuestThread.{GuestThread, thread_of}
 use Rattle.runner.specs.declared.one.Why.{Why}
 use Rattle.runner.specs.Ran.{Ran}
 use Rattle.runner.specs.Boot.{boot_world}

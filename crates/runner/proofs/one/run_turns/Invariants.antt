@@ -1,7 +1,7 @@
 use Rattle.std.proofs.Common.{◌≡◌, ◌+◌, ◌*◌, ◌≤◌, true}
-use Rattle.interp.specs.GuestThread.{thread_of}
-use Rattle.interp.specs.Fits.{Fits}
-use Rattle.interp.specs.Left.{steps_left, calls_left}
+use Rattle.thin_interp.specs.GuestThread.{thread_of}
+use Rattle.thin_interp.specs.Fits.{Fits}
+use Rattle.thin_interp.specs.Left.{steps_left, calls_left}
 use Rattle.runner.specs.Boot.{Boot}
 use Rattle.runner.specs.World.{World}
 use Rattle.runner.specs.Run.{RunsTo}

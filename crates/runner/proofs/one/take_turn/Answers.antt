@@ -1,7 +1,7 @@
 use Rattle.std.proofs.Common.{◌+◌, ◌∷◌, [], List, ℕ, None, slice_index, arith, refl, sym, ap, ◌∙◌}
 use Rattle.wasm_decode.specs.declared.thin.ThinImport.TheVariants.{ProcExit, FdWrite}
-use Rattle.interp.specs.GuestThread.{GuestThread, thread_of, arguments, answered}
-use Rattle.interp.specs.Left.{steps_left}
+use Rattle.thin_interp.specs.GuestThread.{GuestThread, thread_of, arguments, answered}
+use Rattle.thin_interp.specs.Left.{steps_left}
 use Rattle.runner.specs.OneProcess.{reply_of, memory_after}
 use Rattle.runner.proofs.Found.{found_import, is_found}
 use Rattle.runner.proofs.Turns.{exit_leads, return_leads, write_leads, first_word, as_leads}

@@ -2,7 +2,7 @@
 use Rattle.std.specs.Prelude.{◌≡◌, ◌<◌, ◌^◌, Some, length}
 use Rattle.std.specs.List.{AllByRecursion}
 use Rattle.wasm_decode.specs.ThinModule.{ThinModule, heights}
-use Rattle.interp.specs.GuestThread.{Frame, GuestThread}
+use Rattle.thin_interp.specs.GuestThread.{Frame, GuestThread}
 
 -- the code left in the frame finds its operands, and leaves none
 pub record FitsFrame (program : ThinModule) (frame : Frame) : Type 0 where

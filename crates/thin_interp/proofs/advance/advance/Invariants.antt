@@ -1,10 +1,10 @@
 use Rattle.std.proofs.Common.{◌-◌, ◌≡◌, ◌+◌, ◌≤◌, Some}
 use Rattle.linear_memory.specs.LinearMemory.{LinearMemory}
-use Rattle.interp.specs.GuestThread.{thread_of}
-use Rattle.interp.specs.Step.{after}
-use Rattle.interp.specs.Fits.{Fits}
-use Rattle.interp.specs.Left.{steps_left, calls_left}
-use Rattle.interp.proofs.advance.advance.Given as goal
+use Rattle.thin_interp.specs.GuestThread.{thread_of}
+use Rattle.thin_interp.specs.Step.{after}
+use Rattle.thin_interp.specs.Fits.{Fits}
+use Rattle.thin_interp.specs.Left.{steps_left, calls_left}
+use Rattle.thin_interp.proofs.advance.advance.Given as goal
 
 -- the steps so far, and what they leave
 abbrev pub invariant-loop-ran : goal.invariant-loop-ran

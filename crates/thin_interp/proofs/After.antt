@@ -4,9 +4,9 @@ use Rattle.wasm_decode.specs.ThinModule.{ThinModule, is_call}
 use Rattle.wasm_decode.specs.declared.thin.ThinInstr.{ThinInstr}
 use Rattle.wasm_decode.specs.declared.thin.ThinInstr.TheVariants.{Const, Call, Drop}
 use Rattle.linear_memory.specs.LinearMemory.{LinearMemory}
-use Rattle.interp.specs.GuestThread.{Frame, GuestThread}
-use Rattle.interp.specs.Step.{Stepped, Next, AtCall, Finished, Stuck, step, step_code, step_drop, step_frames, onward, after}
-use Rattle.interp.specs.Left.{frames_left, steps_left, frames_calls, calls_left}
+use Rattle.thin_interp.specs.GuestThread.{Frame, GuestThread}
+use Rattle.thin_interp.specs.Step.{Stepped, Next, AtCall, Finished, Stuck, step, step_code, step_drop, step_frames, onward, after}
+use Rattle.thin_interp.specs.Left.{frames_left, steps_left, frames_calls, calls_left}
 
 -- where one continuation leads on wherever the other does
 onward_more : (f g : LinearMemory → GuestThread → Option (LinearMemory × GuestThread)) (x y : LinearMemory × GuestThread) → ((m : LinearMemory) (t : GuestThread) → f m t ≡ Some x → g m t ≡ Some y) → (s : Stepped) → onward f s ≡ Some x → onward g s ≡ Some y

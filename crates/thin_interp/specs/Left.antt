@@ -1,7 +1,7 @@
 -- How many steps are left to a thread of a program that has no loops.
 use Rattle.std.specs.Prelude.{ℕ, suc, ◌+◌, List, [], ◌∷◌, length, count_by}
 use Rattle.wasm_decode.specs.ThinModule.{is_call}
-use Rattle.interp.specs.GuestThread.{Frame, GuestThread}
+use Rattle.thin_interp.specs.GuestThread.{Frame, GuestThread}
 
 -- one for each instruction left, and one for the end of the function
 abbrev pub frames_left : List Frame → ℕ

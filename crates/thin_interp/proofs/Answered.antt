@@ -9,14 +9,14 @@ use Rattle.wasm_decode.specs.declared.thin.ThinImport.{ThinImport}
 use Rattle.wasm_decode.specs.declared.thin.ThinImport.TheVariants.{FdWrite}
 use Rattle.wasm_decode.specs.declared.thin.ThinInstr.{ThinInstr}
 use Rattle.wasm_decode.specs.declared.thin.ThinInstr.TheVariants.{Const, Call, Drop}
-use Rattle.interp.specs.declared.thread.Stop.TheVariants.{Call as CallStop}
+use Rattle.thin_interp.specs.declared.thread.Stop.TheVariants.{Call as CallStop}
 use Rattle.linear_memory.specs.LinearMemory.{LinearMemory}
-use Rattle.interp.specs.GuestThread.{Frame, GuestThread, Snapshot, frames_of, thread_of, answered, frames_answered, frame_answered}
-use Rattle.interp.specs.Step.{step, step_code, step_frames}
-use Rattle.interp.specs.Stops.{StopsAs}
-use Rattle.interp.specs.Fits.{FitsFrame, Fits}
-use Rattle.interp.specs.Left.{steps_left, calls_left, frames_left, frames_calls}
-use Rattle.interp.proofs.Calls.{calling}
+use Rattle.thin_interp.specs.GuestThread.{Frame, GuestThread, Snapshot, frames_of, thread_of, answered, frames_answered, frame_answered}
+use Rattle.thin_interp.specs.Step.{step, step_code, step_frames}
+use Rattle.thin_interp.specs.Stops.{StopsAs}
+use Rattle.thin_interp.specs.Fits.{FitsFrame, Fits}
+use Rattle.thin_interp.specs.Left.{steps_left, calls_left, frames_left, frames_calls}
+use Rattle.thin_interp.proofs.Calls.{calling}
 
 -- a frame that stands at a call has it first in its code
 record Head (code : List ThinInstr) (i : ℕ) : Type 0 where

@@ -9,12 +9,12 @@ use Rattle.wasm_decode.specs.ThinModule.{ThinModule, heights, height_after_call,
 use Rattle.wasm_decode.specs.declared.thin.ThinImport.{ThinImport}
 use Rattle.wasm_decode.specs.declared.thin.ThinInstr.{ThinInstr}
 use Rattle.wasm_decode.specs.declared.thin.ThinInstr.TheVariants.{Const, Call, Drop}
-use Rattle.interp.specs.declared.thread.Stop.TheVariants.{Call as CallStop}
+use Rattle.thin_interp.specs.declared.thread.Stop.TheVariants.{Call as CallStop}
 use Rattle.linear_memory.specs.LinearMemory.{LinearMemory}
-use Rattle.interp.specs.GuestThread.{Frame, GuestThread, Snapshot, thread_of, frame_arguments, arguments}
-use Rattle.interp.specs.Step.{step, step_code, step_frames}
-use Rattle.interp.specs.Stops.{StopsAs}
-use Rattle.interp.specs.Fits.{FitsFrame, Fits}
+use Rattle.thin_interp.specs.GuestThread.{Frame, GuestThread, Snapshot, thread_of, frame_arguments, arguments}
+use Rattle.thin_interp.specs.Step.{step, step_code, step_frames}
+use Rattle.thin_interp.specs.Stops.{StopsAs}
+use Rattle.thin_interp.specs.Fits.{FitsFrame, Fits}
 
 -- the function is an import, and this many operands are enough for it
 pub record Calls (imports : List ThinImport) (function operands : ℕ) : Type 0 where

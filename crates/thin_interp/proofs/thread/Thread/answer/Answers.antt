@@ -1,10 +1,10 @@
 use Rattle.std.proofs.Common.{◌≡◌, ◌+◌, length, arith, subst, sym, ap, ◌∙◌}
-use Rattle.interp.specs.GuestThread.{Snapshot, thread_of}
-use Rattle.interp.specs.Fits.{Fits}
-use Rattle.interp.specs.Left.{steps_left, calls_left}
-use Rattle.interp.proofs.AnyMemory.{any_memory}
-use Rattle.interp.proofs.Answered.{answers, past_is}
-use Rattle.interp.proofs.thread.Thread.answer.Goals as goal
+use Rattle.thin_interp.specs.GuestThread.{Snapshot, thread_of}
+use Rattle.thin_interp.specs.Fits.{Fits}
+use Rattle.thin_interp.specs.Left.{steps_left, calls_left}
+use Rattle.thin_interp.proofs.AnyMemory.{any_memory}
+use Rattle.thin_interp.proofs.Answered.{answers, past_is}
+use Rattle.thin_interp.proofs.thread.Thread.answer.Goals as goal
 
 pub replace_last-requires : goal.replace_last-requires
 replace_last-requires c =

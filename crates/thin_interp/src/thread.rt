@@ -26,7 +26,7 @@ pub struct Thread {
 }
 
 impl Model for Thread {
-    ghost use Rattle.interp.specs.GuestThread.{Snapshot};
+    ghost use Rattle.thin_interp.specs.GuestThread.{Snapshot};
 
     ghost Value = { Snapshot };
 
@@ -47,11 +47,11 @@ fn replace_last(operands: &mut Vec<u32>, count: usize, value: u32)
 impl Thread {
     ghost use Rattle.wasm_decode.specs.ThinModule.{takes};
     ghost use Rattle.linear_memory.specs.LinearMemory.{LinearMemory};
-    ghost use Rattle.interp.specs.GuestThread.{thread_of, started, arguments, answered};
-    ghost use Rattle.interp.specs.Step.{step, Next};
-    ghost use Rattle.interp.specs.Stops.{StopsAs};
-    ghost use Rattle.interp.specs.Fits.{Fits};
-    ghost use Rattle.interp.specs.Left.{steps_left, calls_left};
+    ghost use Rattle.thin_interp.specs.GuestThread.{thread_of, started, arguments, answered};
+    ghost use Rattle.thin_interp.specs.Step.{step, Next};
+    ghost use Rattle.thin_interp.specs.Stops.{StopsAs};
+    ghost use Rattle.thin_interp.specs.Fits.{Fits};
+    ghost use Rattle.thin_interp.specs.Left.{steps_left, calls_left};
 
     /// A thread that begins the program's function. Room for the operands of the whole body is taken here, so that
     /// no step takes any.

@@ -1,10 +1,10 @@
 ghost use Rattle.std.specs.Prelude.{◌≡◌, ◌+◌, ◌≤◌, IfOk, OnOk, Some};
 ghost use Rattle.linear_memory.specs.LinearMemory.{LinearMemory};
-ghost use Rattle.interp.specs.GuestThread.{thread_of};
-ghost use Rattle.interp.specs.Step.{step, after};
-ghost use Rattle.interp.specs.Stops.{StopsAs};
-ghost use Rattle.interp.specs.Fits.{Fits};
-ghost use Rattle.interp.specs.Left.{steps_left, calls_left};
+ghost use Rattle.thin_interp.specs.GuestThread.{thread_of};
+ghost use Rattle.thin_interp.specs.Step.{step, after};
+ghost use Rattle.thin_interp.specs.Stops.{StopsAs};
+ghost use Rattle.thin_interp.specs.Fits.{Fits};
+ghost use Rattle.thin_interp.specs.Left.{steps_left, calls_left};
 
 use crate::thread::{Stop, Thread};
 use std::alloc::AllocError;

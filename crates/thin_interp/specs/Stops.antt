@@ -1,8 +1,8 @@
 -- What a thread stands at.
 use Rattle.std.specs.Prelude.{◌≡◌}
-use Rattle.interp.specs.declared.thread.Stop.{Stop}
-use Rattle.interp.specs.declared.thread.Stop.TheVariants.{Spent, Call, Finished as Returned}
-use Rattle.interp.specs.Step.{Stepped, Next, AtCall, Finished, Stuck}
+use Rattle.thin_interp.specs.declared.thread.Stop.{Stop}
+use Rattle.thin_interp.specs.declared.thread.Stop.TheVariants.{Spent, Call, Finished as Returned}
+use Rattle.thin_interp.specs.Step.{Stepped, Next, AtCall, Finished, Stuck}
 
 -- this is how a thread stops whose next step is such: spent is where it would go on
 abbrev pub StopsAs : Stepped → Stop → Type 0

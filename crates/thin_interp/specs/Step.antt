@@ -4,7 +4,7 @@ use Rattle.wasm_decode.specs.ThinModule.{ThinModule}
 use Rattle.wasm_decode.specs.declared.thin.ThinInstr.{ThinInstr}
 use Rattle.wasm_decode.specs.declared.thin.ThinInstr.TheVariants.{Const, Call, Drop}
 use Rattle.linear_memory.specs.LinearMemory.{LinearMemory}
-use Rattle.interp.specs.GuestThread.{Frame, GuestThread}
+use Rattle.thin_interp.specs.GuestThread.{Frame, GuestThread}
 
 pub data Stepped : Type 0 where
   -- one instruction was executed, or the end of a function was reached

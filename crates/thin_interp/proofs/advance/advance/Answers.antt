@@ -1,8 +1,8 @@
 use Rattle.std.proofs.Common.{add-one, arith, ◌∙◌}
-use Rattle.interp.specs.GuestThread.{thread_of}
-use Rattle.interp.proofs.AnyMemory.{any_memory}
-use Rattle.interp.proofs.After.{after_more, left_step, calls_step}
-use Rattle.interp.proofs.advance.advance.Goals as goal
+use Rattle.thin_interp.specs.GuestThread.{thread_of}
+use Rattle.thin_interp.proofs.AnyMemory.{any_memory}
+use Rattle.thin_interp.proofs.After.{after_more, left_step, calls_step}
+use Rattle.thin_interp.proofs.advance.advance.Goals as goal
 
 pub loop-ran-preserved : goal.loop-ran-preserved
 loop-ran-preserved c =

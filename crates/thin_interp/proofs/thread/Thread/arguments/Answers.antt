@@ -1,8 +1,8 @@
 use Rattle.std.proofs.Common.{IsSome, length, refl, arith, subst, sym, ap, ◌∙◌}
 use Rattle.wasm_decode.specs.ThinModule.{takes}
-use Rattle.interp.proofs.AnyMemory.{any_memory}
-use Rattle.interp.proofs.Calls.{calling, last_operands, same_import, within_imports, tail_is, tail_long}
-use Rattle.interp.proofs.thread.Thread.arguments.Goals as goal
+use Rattle.thin_interp.proofs.AnyMemory.{any_memory}
+use Rattle.thin_interp.proofs.Calls.{calling, last_operands, same_import, within_imports, tail_is, tail_long}
+use Rattle.thin_interp.proofs.thread.Thread.arguments.Goals as goal
 
 pub unreachable-requires : goal.unreachable-requires
 unreachable-requires c =
