@@ -13,7 +13,8 @@ mod steps;
 
 use super::entries::{OpenFrame, OpenLabel};
 use super::functions::{
-    behind_instruction, first_globals, further_locals, over_arguments, own_function, returns,
+    behind_instruction, first_globals, further_locals, over_arguments, own_function, params,
+    returns,
 };
 use super::stack::{Stack, push_all, push_option};
 use int_ops::Cause;
