@@ -3,8 +3,9 @@ ghost use Rattle.std.specs.Prelude.{◌≡◌, ◌+◌, ◌<◌, ◌^◌, if◌t
 ghost use Rattle.wasm_ast.specs.TypingModule.{functions_of, globals_of};
 ghost use Rattle.wasm_ast.specs.Locals.{total};
 ghost use Rattle.wasm_ast.specs.Position.{BeginsWith, behind, remaining};
+ghost use Rattle.wasm_ast.specs.Table.{constant_value, instruction_constant};
 ghost use Rattle.guest_state.specs.Steps.{over_arguments, over_instruction};
-ghost use Rattle.guest_state.specs.Module.{body_of, own_function, type_of, further_locals, first_globals, param_count, result_count, constant_value, first_value, instruction_constant};
+ghost use Rattle.guest_state.specs.Module.{body_of, own_function, type_of, further_locals, first_globals, param_count, result_count, first_value};
 
 use super::entries::OpenFrame;
 use std::alloc::{AllocError, Global};

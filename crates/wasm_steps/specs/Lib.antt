@@ -1,4 +1,3 @@
-pub mod Table
 pub mod Stepped
 pub mod Control
 pub mod Variable
