@@ -18,15 +18,15 @@ one_turned None = refl
 one_turned (Some t) = refl
 
 -- code that waits for a value goes on over it
-pub resumed : (c : Context) (labels : Labels) (lt awaited : Option ValType) (new operands : List ℕ) (code : Sequence) → FitsCode c labels lt awaited operands code → HaveTypes (option_to_list awaited) new
-    → FitsCode c labels lt None (new ++ operands) code
-resumed c labels lt awaited new operands code fits values = record {
+pub resumed : (c : Context) (labels : Labels) (leaves_type awaited : Option ValType) (new operands : List ℕ) (code : Sequence) → FitsCode c labels leaves_type awaited operands code → HaveTypes (option_to_list awaited) new
+    → FitsCode c labels leaves_type None (new ++ operands) code
+resumed c labels leaves_type awaited new operands code fits values = record {
   types = option_to_list awaited ++ fits.types;
   values = have_append (option_to_list awaited) fits.types new operands values fits.values;
   code_typed = over awaited fits.code_typed;
 } where
-  over : (of : Option ValType) → leaves lt (typed c labels code (push_operands (option_to_list of) (operands_of fits.types))) ≡ true
-      → leaves lt (typed c labels code (operands_of (option_to_list of ++ fits.types))) ≡ true
+  over : (of : Option ValType) → leaves leaves_type (typed c labels code (push_operands (option_to_list of) (operands_of fits.types))) ≡ true
+      → leaves leaves_type (typed c labels code (operands_of (option_to_list of ++ fits.types))) ≡ true
   over None e = e
   over (Some t) e = e
 
@@ -71,15 +71,15 @@ result_stands c operands stands =
 -- ---- the start of a block
 
 -- The inner code of a block leaves the block's type, and what stands behind it waits for that.
-pub opened_stands : (c : Context) (takes : Labels) (lt of takes_type : Option ValType) (ls : List Label) (types : List ValType) (operands : List ℕ) (continuation outer inner : Sequence) → FitLabels c takes lt ls
-    → HaveTypes types operands → leaves of (typed c (takes_type ∷ takes) inner no_operands) ≡ true → leaves lt (typed c takes outer (push_operands (option_to_list of) (operands_of types))) ≡ true
-    → leaves lt (typed c takes continuation (push_operands (option_to_list takes_type) (operands_of types))) ≡ true
+pub opened_stands : (c : Context) (takes : Labels) (leaves_type of takes_type : Option ValType) (ls : List Label) (types : List ValType) (operands : List ℕ) (continuation outer inner : Sequence) → FitLabels c takes leaves_type ls
+    → HaveTypes types operands → leaves of (typed c (takes_type ∷ takes) inner no_operands) ≡ true → leaves leaves_type (typed c takes outer (push_operands (option_to_list of) (operands_of types))) ≡ true
+    → leaves leaves_type (typed c takes continuation (push_operands (option_to_list takes_type) (operands_of types))) ≡ true
     → Stands c ((record { arity = length (option_to_list takes_type); continuation = continuation; outer_operands = operands; outer_code = outer }) ∷ ls) [] inner
-opened_stands c takes lt of takes_type ls types operands continuation outer inner labels values inside behind branch = record {
+opened_stands c takes leaves_type of takes_type ls types operands continuation outer inner labels values inside behind branch = record {
   takes = takes_type ∷ takes;
   leaves_type = of;
   labels_fit = (
-    lt,
+    leaves_type,
     record {
       arity = refl;
       ends = record { types = types; values = values; code_typed = behind };
@@ -93,7 +93,7 @@ opened_stands c takes lt of takes_type ls types operands continuation outer inne
 -- ---- branches
 
 -- a label by its depth, and what stands around it: or the function's own
-pub record Label_at (c : Context) (ls : List Label) (n : ℕ) (of : Option ValType) : Type 0 where
+pub record LabelAt (c : Context) (ls : List Label) (n : ℕ) (of : Option ValType) : Type 0 where
   pub label : Label
   pub here : slice_get ls n ≡ Some label
   pub takes : Labels
@@ -102,23 +102,23 @@ pub record Label_at (c : Context) (ls : List Label) (n : ℕ) (of : Option ValTy
   pub fits : FitsLabel c takes of leaves_type outer_leaves label
   pub outer : FitLabels c takes outer_leaves (drop (suc n) ls)
 
-pub label_at : (c : Context) (takes : Labels) (lt : Option ValType) (ls : List Label) (n : ℕ) (of : Option ValType) → FitLabels c takes lt ls → slice_get takes n ≡ Some of
-    → Label_at c ls n of ⊎ ((n ≡ length ls) × (of ≡ c.result))
-label_at c takes lt [] n of fit e = own n (subst (λ ts. slice_get ts n ≡ Some of) fit.0 e) where
-  own : (k : ℕ) → slice_get (c.result ∷ []) k ≡ Some of → Label_at c [] k of ⊎ ((k ≡ 0) × (of ≡ c.result))
+pub label_at : (c : Context) (takes : Labels) (leaves_type : Option ValType) (ls : List Label) (n : ℕ) (of : Option ValType) → FitLabels c takes leaves_type ls → slice_get takes n ≡ Some of
+    → LabelAt c ls n of ⊎ ((n ≡ length ls) × (of ≡ c.result))
+label_at c takes leaves_type [] n of fit e = own n (subst (λ ts. slice_get ts n ≡ Some of) fit.0 e) where
+  own : (k : ℕ) → slice_get (c.result ∷ []) k ≡ Some of → LabelAt c [] k of ⊎ ((k ≡ 0) × (of ≡ c.result))
   own zero e' = inr (refl, (cc))
   own (suc k) e' = absurd (cc)
-label_at c [] lt (l ∷ ls) n of fit e = absurd fit
-label_at c (t ∷ ts) lt (l ∷ ls) zero of fit e =
+label_at c [] leaves_type (l ∷ ls) n of fit e = absurd fit
+label_at c (t ∷ ts) leaves_type (l ∷ ls) zero of fit e =
     let same : t ≡ of = cc in
-    inl (record { label = l; here = refl; takes = ts; leaves_type = lt; outer_leaves = fit.0; fits = subst (λ x. FitsLabel c ts x lt fit.0 l) same fit.1; outer = fit.2 })
-label_at c (t ∷ ts) lt (l ∷ ls) (suc n) of fit e = deeper (label_at c ts fit.0 ls n of fit.2 e) where
-  deeper : Label_at c ls n of ⊎ ((n ≡ length ls) × (of ≡ c.result)) → Label_at c (l ∷ ls) (suc n) of ⊎ ((suc n ≡ suc (length ls)) × (of ≡ c.result))
+    inl (record { label = l; here = refl; takes = ts; leaves_type = leaves_type; outer_leaves = fit.0; fits = subst (λ x. FitsLabel c ts x leaves_type fit.0 l) same fit.1; outer = fit.2 })
+label_at c (t ∷ ts) leaves_type (l ∷ ls) (suc n) of fit e = deeper (label_at c ts fit.0 ls n of fit.2 e) where
+  deeper : LabelAt c ls n of ⊎ ((n ≡ length ls) × (of ≡ c.result)) → LabelAt c (l ∷ ls) (suc n) of ⊎ ((suc n ≡ suc (length ls)) × (of ≡ c.result))
   deeper (inl a) = inl (record { label = a.label; here = a.here; takes = a.takes; leaves_type = a.leaves_type; outer_leaves = a.outer_leaves; fits = a.fits; outer = a.outer })
   deeper (inr own) = inr (ap suc own.0, own.1)
 
 -- behind a branch to a label, with what it takes above what stood around
-pub branched_stands : (c : Context) (ls : List Label) (n : ℕ) (of : Option ValType) (operands : List ℕ) (at : Label_at c ls n of) → HaveTypes (option_to_list of) operands
+pub branched_stands : (c : Context) (ls : List Label) (n : ℕ) (of : Option ValType) (operands : List ℕ) (at : LabelAt c ls n of) → HaveTypes (option_to_list of) operands
     → Stands c (drop (suc n) ls) (operands ++ at.label.outer_operands) at.label.continuation
 branched_stands c ls n of operands at values = record {
   takes = at.takes;

@@ -162,10 +162,10 @@ module _ (m : Module) (typed : is_typed m ≡ true) where
       rw e (one_at_most f.results (listed is_function_type m.types o.0 f types_declared o.2))
 
   -- The function that is called fits, and so does the one that waits behind the call.
-  pub called_frames : (n : ℕ) (f : FuncType) (frame : Frame) (fits : FitsFrame m None frame) (takes : Labels) (lt : Option ValType) (operands : List ℕ) (rest : Sequence) → type_of m n ≡ Some f
-      → FitLabels fits.c takes lt frame.labels → Taken fits.c takes lt rest f.params f.results operands
+  pub called_frames : (n : ℕ) (f : FuncType) (frame : Frame) (fits : FitsFrame m None frame) (takes : Labels) (leaves_type : Option ValType) (operands : List ℕ) (rest : Sequence) → type_of m n ≡ Some f
+      → FitLabels fits.c takes leaves_type frame.labels → Taken fits.c takes leaves_type rest f.params f.results operands
       → FitsFrame m None (entered m n (reverse (take (length f.params) operands))) × FitsFrame m (result_of m n) (record frame { operands = drop (length f.params) operands; code = rest })
-  called_frames n f frame fits takes lt operands rest type labels t =
+  called_frames n f frame fits takes leaves_type operands rest type labels t =
       let o = bind_some (slice_get m.types) (slice_get m.functions n) f type in
       let its = own_typed m.functions m.codes n o.0 functions_defined o.1 in (
         entered_fits m n its.2.0 f (reverse (take (length f.params) operands)) typed its.2.1 type (taken_values f.params t.others operands t.values),
@@ -175,7 +175,7 @@ module _ (m : Module) (typed : is_typed m ≡ true) where
           arity = fits.arity;
           locals = fits.locals;
           takes = takes;
-          leaves_type = lt;
+          leaves_type = leaves_type;
           labels = labels;
           here = record {
             types = t.others;

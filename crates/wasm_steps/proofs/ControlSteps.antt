@@ -27,26 +27,18 @@ use Rattle.wasm_steps.specs.Kept.{IsKept, IsMemory}
 use Rattle.wasm_steps.specs.Stepped.{AtCall, Next, Stepped, Trapped}
 use Rattle.wasm_steps.specs.Table as table
 use Rattle.wasm_steps.proofs.Branches as branches
-use Rattle.wasm_steps.proofs.Branches.{Label_at, branched_stands, closed_stands, label_at, left_stands, one_turned, opened_stands, result_stands}
+use Rattle.wasm_steps.proofs.Branches.{LabelAt, branched_stands, closed_stands, label_at, left_stands, one_turned, opened_stands, result_stands}
 use Rattle.wasm_steps.proofs.Calls.{called_frames, own_type, placed_typed, result_same}
 use Rattle.wasm_steps.proofs.Operands.{Stands, enough, have_take, number_first}
 use Rattle.wasm_steps.proofs.Running.{Running, Takes, goes_kept, kept_either, as_thread}
 
-block_parts : (lt : Option ValType) (test : Bool) (o : Option Operands) → leaves lt (cond test o None) ≡ true → (test ≡ true) × (leaves lt o ≡ true)
-block_parts lt true o e = (refl, e)
-block_parts lt false o e = absurd (cc)
+block_parts : (leaves_type : Option ValType) (test : Bool) (o : Option Operands) → leaves leaves_type (cond test o None) ≡ true → (test ≡ true) × (leaves leaves_type o ≡ true)
+block_parts leaves_type true o e = (refl, e)
+block_parts leaves_type false o e = absurd (cc)
 
-behind_some : (lt : Option ValType) (f : Operands → Option Operands) (o : Option Operands) → leaves lt (option_and_then f o) ≡ true → (s : Operands) × (o ≡ Some s) × (leaves lt (f s) ≡ true)
-behind_some lt f None e = absurd (cc)
-behind_some lt f (Some s) e = (s, refl, e)
-
-kept_where : (m : Module) (b : Bool) (x y : Stepped) → (b ≡ true → IsKept m x) → IsKept m y → IsKept m (cond b x y)
-kept_where m true x y p q = p refl
-kept_where m false x y p q = q
-
-kept_unless : (m : Module) (b : Bool) (x y : Stepped) → IsKept m x → (b ≡ false → IsKept m y) → IsKept m (cond b x y)
-kept_unless m true x y p q = p
-kept_unless m false x y p q = q refl
+behind_some : (leaves_type : Option ValType) (f : Operands → Option Operands) (o : Option Operands) → leaves leaves_type (option_and_then f o) ≡ true → (s : Operands) × (o ≡ Some s) × (leaves leaves_type (f s) ≡ true)
+behind_some leaves_type f None e = absurd (cc)
+behind_some leaves_type f (Some s) e = (s, refl, e)
 
 -- the label that a branch table names takes what all its labels take
 named_label : (o : Option (Option ValType)) (of : Option ValType) → takes o of ≡ true → o ≡ Some of
@@ -89,7 +81,7 @@ module _ (m : Module) (r : Running m) (memory : LinearMemory) (is : IsMemory mem
   -- ---- blocks
 
   enters_kept : (test : Bool) (x : Stepped) → IsKept m x → IsKept m (cond test x (Trapped StackFull))
-  enters_kept test x h = kept_either m test x (Trapped StackFull) h tt
+  enters_kept test x h = kept_either m test x (Trapped StackFull) (λ room. h) (λ full. tt)
 
   pub block_kept : (k : BlockKind) (of : Option ValType) (body rest : Sequence) (types : List ValType) → HaveTypes types r.frame.operands
       → leaves r.fits.leaves_type (typed r.fits.c r.fits.takes (Block k of body rest) (operands_of types)) ≡ true → IsKept m (step_block memory (as_thread m r) k of body rest)
@@ -137,7 +129,7 @@ module _ (m : Module) (r : Running m) (memory : LinearMemory) (is : IsMemory mem
     taken_by_label count o e h =
         (le-ltb (length operands) count (omega (arith, enough (option_to_list o) others operands h)), rw e (have_take (option_to_list o) others operands h))
 
-    by : Label_at r.fits.c r.frame.labels n of ⊎ ((n ≡ length r.frame.labels) × (of ≡ r.fits.c.result)) → IsKept m (step_branch memory (as_thread m r) r.frame n operands)
+    by : LabelAt r.fits.c r.frame.labels n of ⊎ ((n ≡ length r.frame.labels) × (of ≡ r.fits.c.result)) → IsKept m (step_branch memory (as_thread m r) r.frame n operands)
     by (inl a) =
         let inside : eqb n (length r.frame.labels) ≡ false = ne_eqb n (length r.frame.labels) (λ e. let w = slice_get_within r.frame.labels n a.label a.here in absurd (omega arith)) in
         let top = taken_by_label a.label.arity of a.fits.arity turned in
@@ -215,7 +207,7 @@ module _ (m : Module) (r : Running m) (memory : LinearMemory) (is : IsMemory mem
       let imported = ltb x (length (functions_of m.imports)) in
       let own = λ (e : imported ≡ false). called_kept typed_module (x - length (functions_of m.imports)) f rest operands (own_type m typed_module x f type (ltb-false x (length (functions_of m.imports)) e)) t in
       let answer = value_count (as_thread m r) + length f.results - (length f.params + (length r.frame.operands - length operands)) in
-      rw (type, test) (kept_unless m imported _ _ (kept_either m (leb answer most_values) (AtCall x) (Trapped StackFull) tt tt) own)
+      rw (type, test) (kept_either m imported _ _ (λ e. kept_either m (leb answer most_values) (AtCall x) (Trapped StackFull) (λ room. tt) (λ full. tt)) own)
 
   pub call_indirect_kept : (typed_module : is_typed m ≡ true) (t : ℕ) (f : FuncType) (rest : Sequence) (operands : List ℕ) → slice_get m.types t ≡ Some f → Takes m r rest (f.params ++ I32 ∷ []) f.results operands
       → IsKept m (step_call_indirect m memory (as_thread m r) r.frame t rest operands)
@@ -225,12 +217,12 @@ module _ (m : Module) (r : Running m) (memory : LinearMemory) (is : IsMemory mem
     under = record { others = taken.others; values = (number_first f.params taken.others (i ∷ left) taken.values).1; behind = taken.behind }
 
     by : (put : Option ℕ) → table.last_put m.elements i ≡ put → IsKept m (step_call_indirect m memory (as_thread m r) r.frame t rest (i ∷ left))
-    by None e = rw e (kept_either m (ltb i (table.table_size m)) _ (Trapped UndefinedElement) tt tt)
+    by None e = rw e (kept_either m (ltb i (table.table_size m)) _ (Trapped UndefinedElement) (λ inside. tt) (λ past. tt))
     by (Some x) e =
         let found = placed_typed m typed_module i x e in
         let call = λ (same : table.same_function_type f found.0 ≡ true). call_kept typed_module x f rest left (found.1 ∙ ap Some (sym (same_functions f found.0 same))) under in
         rw (e, type, found.1)
-        (kept_either m (ltb i (table.table_size m)) _ (Trapped UndefinedElement) (kept_where m (table.same_function_type f found.0) _ (Trapped TypeMismatch) call tt) tt)
+        (kept_either m (ltb i (table.table_size m)) _ (Trapped UndefinedElement) (λ inside. kept_either m (table.same_function_type f found.0) _ (Trapped TypeMismatch) call (λ other. tt)) (λ past. tt))
 
   -- ---- ends
 

@@ -188,7 +188,7 @@ module _ (m : Module) (typed_module : is_typed m ≡ true) (r : Running m) (memo
   br_if_kept n of rest [] at t = absurd (number_first (option_to_list of) t.others [] t.values)
   br_if_kept n of rest (c ∷ left) at t =
       let values = number_first (option_to_list of) t.others (c ∷ left) t.values in
-      kept_either m (eqb c 0) _ _ (leaves_kept m r memory is rest (option_to_list of ++ I32 ∷ []) (option_to_list of) (c ∷ left) left t values.1) (branch_kept m r memory is n of left t.others at values.1)
+      kept_either m (eqb c 0) _ _ (λ none. leaves_kept m r memory is rest (option_to_list of ++ I32 ∷ []) (option_to_list of) (c ∷ left) left t values.1) (λ other. branch_kept m r memory is n of left t.others at values.1)
 
   br_table_kept : (labels : List ℕ) (default : ℕ) (of : Option ValType) (others : List ValType) (operands : List ℕ) → table_label r.fits.takes labels default ≡ Some of → HaveTypes (I32 ∷ reverse (option_to_list of) ++ others) operands
       → IsKept m (step_br_table memory (as_thread m r) r.frame labels default operands)
@@ -279,8 +279,8 @@ frames_kept m memory globals main full typed_module is values (f ∷ fs) fits =
 -- A step of a thread that fits a typed module lacks no operand and no label, and the thread that it leaves fits the module.
 pub step_kept : (m : Module) (memory : LinearMemory) (thread : GuestThread) → is_typed m ≡ true → IsMemory memory → Fits m thread → IsKept m (step m memory thread)
 step_kept m memory thread typed_module is fits =
-    kept_either m thread.full (Trapped StackFull) (step_frames m memory thread thread.frames) tt
-    (frames_kept m memory thread.globals thread.main thread.full typed_module is fits.globals thread.frames fits.frames)
+    kept_either m thread.full (Trapped StackFull) (step_frames m memory thread thread.frames) (λ full. tt)
+    (λ free. frames_kept m memory thread.globals thread.main thread.full typed_module is fits.globals thread.frames fits.frames)
 
 -- So do several.
 pub after_kept : (n : ℕ) (m : Module) (memory : LinearMemory) (thread : GuestThread) → is_typed m ≡ true → IsMemory memory → Fits m thread → AreKept m (after_steps n m memory thread)

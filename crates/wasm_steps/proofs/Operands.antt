@@ -73,37 +73,37 @@ stands_frame m f fits locals operands labels code values stands = record {
 }
 
 -- what stands behind an instruction is typed over what the instruction leaves
-pub behind_typed : (c : Context) (labels : Labels) (lt : Option ValType) (i : Instr) (rest : Sequence) (s : Operands) → leaves lt (typed c labels (Plain i rest) s) ≡ true
-    → (u : Operands) × (after c labels i s ≡ Some u) × (leaves lt (typed c labels rest u) ≡ true)
-behind_typed c labels lt i rest s e =
-    let all = leaves_some lt (typed c labels (Plain i rest) s) e in
+pub behind_typed : (c : Context) (labels : Labels) (leaves_type : Option ValType) (i : Instr) (rest : Sequence) (s : Operands) → leaves leaves_type (typed c labels (Plain i rest) s) ≡ true
+    → (u : Operands) × (after c labels i s ≡ Some u) × (leaves leaves_type (typed c labels rest u) ≡ true)
+behind_typed c labels leaves_type i rest s e =
+    let all = leaves_some leaves_type (typed c labels (Plain i rest) s) e in
     let first = bind_some (typed c labels rest) (after c labels i s) all.0 all.1 in
-    (first.0, first.1, ap (leaves lt) first.2 ∙ all.2)
+    (first.0, first.1, ap (leaves leaves_type) first.2 ∙ all.2)
 
 -- What is taken from operands has the types of the parameters, and code fits what is given above the others.
-pub record Taken (c : Context) (labels : Labels) (lt : Option ValType) (rest : Sequence) (ps rs : List ValType) (operands : List ℕ) : Type 0 where
+pub record Taken (c : Context) (labels : Labels) (leaves_type : Option ValType) (rest : Sequence) (ps rs : List ValType) (operands : List ℕ) : Type 0 where
   pub others : List ValType
   pub values : HaveTypes (reverse ps ++ others) operands
-  pub behind : leaves lt (typed c labels rest (push_operands rs (operands_of others))) ≡ true
+  pub behind : leaves leaves_type (typed c labels rest (push_operands rs (operands_of others))) ≡ true
 
-pub taken : (c : Context) (labels : Labels) (lt : Option ValType) (rest : Sequence) (ps rs types : List ValType) (operands : List ℕ) (u : Operands) → HaveTypes types operands
-    → Applies ps rs (operands_of types) u → leaves lt (typed c labels rest u) ≡ true → Taken c labels lt rest ps rs operands
-taken c labels lt rest ps rs types operands u values applies behind =
+pub taken : (c : Context) (labels : Labels) (leaves_type : Option ValType) (rest : Sequence) (ps rs types : List ValType) (operands : List ℕ) (u : Operands) → HaveTypes types operands
+    → Applies ps rs (operands_of types) u → leaves leaves_type (typed c labels rest u) ≡ true → Taken c labels leaves_type rest ps rs operands
+taken c labels leaves_type rest ps rs types operands u values applies behind =
     let known = taken_known ps types applies.0 applies.1 in
     let e : u ≡ push_operands rs (operands_of known.0) = applies.2 ∙ ap (push_operands rs) known.2 in
     record {
       others = known.0;
       values = subst (λ ts. HaveTypes ts operands) known.1 values;
-      behind = subst (λ x. leaves lt (typed c labels rest x) ≡ true) e behind;
+      behind = subst (λ x. leaves leaves_type (typed c labels rest x) ≡ true) e behind;
     }
 
 -- what is given stands above what was left
-pub given : (c : Context) (labels : Labels) (lt : Option ValType) (rest : Sequence) (ps rs : List ValType) (operands left : List ℕ) (t : Taken c labels lt rest ps rs operands)
-    → HaveTypes (reverse rs ++ t.others) left → FitsCode c labels lt None left rest
-given c labels lt rest ps rs operands left t values = record {
+pub given : (c : Context) (labels : Labels) (leaves_type : Option ValType) (rest : Sequence) (ps rs : List ValType) (operands left : List ℕ) (t : Taken c labels leaves_type rest ps rs operands)
+    → HaveTypes (reverse rs ++ t.others) left → FitsCode c labels leaves_type None left rest
+given c labels leaves_type rest ps rs operands left t values = record {
   types = reverse rs ++ t.others;
   values = values;
-  code_typed = subst (λ x. leaves lt (typed c labels rest x) ≡ true) (given_known rs t.others) t.behind;
+  code_typed = subst (λ x. leaves leaves_type (typed c labels rest x) ≡ true) (given_known rs t.others) t.behind;
 }
 
 -- the operands that are taken, in the order of the parameters, and those under them

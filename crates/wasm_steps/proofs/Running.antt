@@ -1,5 +1,5 @@
 -- A thread that has a frame and fits its module, and the ways in which an instruction goes on.
-use Rattle.std.proofs.Common.{ℕ, Bool, true, false, cond, ltb, List, [], ◌∷◌, ◌++◌, map, reverse, None, Result, Ok, Err}
+use Rattle.std.proofs.Common.{◌≡◌, ℕ, Bool, true, false, refl, cond, ltb, List, [], ◌∷◌, ◌++◌, map, reverse, None, Result, Ok, Err}
 use Rattle.linear_memory.specs.LinearMemory.{LinearMemory}
 use Rattle.int_ops.specs.declared.trap.Cause.{Cause}
 use Rattle.int_ops.specs.declared.trap.Cause.TheVariants.{StackFull}
@@ -24,9 +24,9 @@ pub record Running (m : Module) : Type 0 where
   pub below : FitFrames m (result_of m frame.function) others
   pub global_values : HaveTypes (map (λ g. g.0) (context_of m).globals) globals
 
-pub kept_either : (m : Module) (b : Bool) (x y : Stepped) → IsKept m x → IsKept m y → IsKept m (cond b x y)
-kept_either m true x y p q = p
-kept_either m false x y p q = q
+pub kept_either : (m : Module) (b : Bool) (x y : Stepped) → (b ≡ true → IsKept m x) → (b ≡ false → IsKept m y) → IsKept m (cond b x y)
+kept_either m true x y p q = p refl
+kept_either m false x y p q = q refl
 
 -- what an operator gives, where it doesn't trap
 abbrev pub GivesType : ValType → Result ℕ Cause → Type 0
@@ -62,7 +62,7 @@ module _ (m : Module) (r : Running m) where
   pub pushes_kept : (memory : LinearMemory) → IsMemory memory → (rest : Sequence) (type : ValType) (value : ℕ) → Takes rest [] (type ∷ []) r.frame.operands → HasType type value
       → IsKept m (pushes memory as_thread r.frame rest value)
   pushes_kept memory is rest type value t has =
-      kept_either m (ltb (value_count as_thread) most_values) _ (Trapped StackFull) (leaves_kept memory is rest [] (type ∷ []) r.frame.operands (value ∷ r.frame.operands) t (has, t.values)) tt
+      kept_either m (ltb (value_count as_thread) most_values) _ (Trapped StackFull) (λ room. leaves_kept memory is rest [] (type ∷ []) r.frame.operands (value ∷ r.frame.operands) t (has, t.values)) (λ full. tt)
 
   pub gives_kept : (memory : LinearMemory) → IsMemory memory → (rest : Sequence) (ps : List ValType) (type : ValType) (operands left : List ℕ) (result : Result ℕ Cause) (t : Takes rest ps (type ∷ []) operands)
       → GivesType type result → HaveTypes t.others left → IsKept m (gives memory as_thread rest left result)

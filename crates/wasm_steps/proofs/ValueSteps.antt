@@ -84,8 +84,8 @@ module _ (m : Module) (r : Running m) (memory : LinearMemory) (is : IsMemory mem
   access_kept (Wait of) offset rest (timeout ∷ expected ∷ []) t = absurd t.values.1.1
   access_kept (Wait of) offset rest (timeout ∷ expected ∷ base ∷ left) t =
       kept_either m memory.shared _ (Trapped NotShared)
-      (atomic_either (λ x. IsKept m (stands x)) memory (base + offset) (wait_width of) (AtWait (wait_width of) (base + offset)) (λ within. tt) (λ cause. tt))
-      tt
+      (λ shared. atomic_either (λ x. IsKept m (stands x)) memory (base + offset) (wait_width of) (AtWait (wait_width of) (base + offset)) (λ within. tt) (λ cause. tt))
+      (λ own. tt)
   access_kept (AtomicLoad of) offset rest [] t = absurd t.values
   access_kept (AtomicLoad of) offset rest (base ∷ left) t =
       atomic_either (λ x. IsKept m (gives memory (as_thread m r) rest left x)) memory (base + offset) (form_width of) (number_at memory.bytes (base + offset) (form_width of))

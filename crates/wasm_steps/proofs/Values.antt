@@ -67,15 +67,7 @@ test_below of i = truth_below _
 pub compare_below : (of : IntType) (op : CompareOp) (i j : ℕ) → compare_value of op i j < 2 ^ 32
 unfolding ieq ine ilt_s ilt_u igt_s igt_u ile_s ile_u ige_s ige_u
 compare_below of Eq i j = truth_below _
-compare_below of Ne i j = truth_below _
-compare_below of LtS i j = truth_below _
-compare_below of LtU i j = truth_below _
-compare_below of GtS i j = truth_below _
-compare_below of GtU i j = truth_below _
-compare_below of LeS i j = truth_below _
-compare_below of LeU i j = truth_below _
-compare_below of GeS i j = truth_below _
-compare_below of GeU i j = truth_below _
+compare_below of _ i j = truth_below _
 
 length-ibits : (n i : ℕ) → length (ibits n i) ≡ n
 unfolding ibits

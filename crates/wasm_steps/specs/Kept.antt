@@ -7,7 +7,7 @@ use Rattle.guest_state.specs.GuestThread.{GuestThread}
 use Rattle.guest_state.specs.Fits.{Fits}
 use Rattle.wasm_steps.specs.Stepped.{Stepped, Next, Trapped, AtCall, AtWait, AtNotify, Finished, Stuck}
 
--- bytes, in no more pages than any memory may have (2.3.4 and 3.2.5)
+-- bytes, in no more pages than any memory may have (3.2.5)
 pub record IsMemory (memory : LinearMemory) : Type 0 where
   pub bytes : All (λ byte. byte < 256) memory.bytes
   pub pages : page_count memory ≤ 65536
