@@ -17,20 +17,20 @@ use Rattle.wasm_ast.specs.Types.{same_type}
 use Rattle.wasm_ast.specs.Sequence.{Sequence, Empty, Block, If}
 use Rattle.wasm_ast.specs.Typing.{Labels, Operands, leaves, no_operands, pop_expected, push_operands, same_label, table_label, takes, typed}
 use Rattle.wasm_ast.specs.TypingModule.{functions_of, is_typed}
-use Rattle.guest_state.specs.Fits.{FitFrames, FitsFrame, HaveTypes, operands_of, result_of}
+use Rattle.guest_state.specs.Fits.{FitFrames, FitsFrame, HaveTypes, IsAnsweredBy, operands_of, result_of}
 use Rattle.guest_state.specs.GuestThread.{Frame, GuestThread, Label, label_count, value_count}
 use Rattle.guest_state.specs.Module.{further_locals, param_count, type_of}
 use Rattle.guest_state.specs.Steps.{called, entered, has_room, most_labels, most_values, returned}
-use Rattle.guest_state.proofs.AnswerLemmas.{bind_some, if_some, same_types, taken_known}
+use Rattle.guest_state.proofs.AnswerLemmas.{bind_some, if_some, same_types, some_same, taken_known}
 use Rattle.wasm_steps.specs.Control.{resumed, step_block, step_branch, step_call, step_call_indirect, step_end, step_if, step_return}
-use Rattle.wasm_steps.specs.Kept.{IsKept, IsMemory}
+use Rattle.wasm_steps.specs.Kept.{IsMemory}
 use Rattle.wasm_steps.specs.Stepped.{AtCall, Next, Stepped, Trapped}
 use Rattle.wasm_steps.specs.Table as table
 use Rattle.wasm_steps.proofs.Branches as branches
 use Rattle.wasm_steps.proofs.Branches.{LabelAt, branched_stands, closed_stands, label_at, left_stands, one_turned, opened_stands, result_stands}
 use Rattle.wasm_steps.proofs.Calls.{called_frames, own_type, placed_typed, result_same}
 use Rattle.wasm_steps.proofs.Operands.{Stands, enough, have_take, number_first}
-use Rattle.wasm_steps.proofs.Running.{Running, Takes, goes_kept, kept_either, as_thread}
+use Rattle.wasm_steps.proofs.Running.{Keeps, Running, Takes, goes_kept, kept_either, as_thread}
 
 block_parts : (leaves_type : Option ValType) (test : Bool) (o : Option Operands) → leaves leaves_type (cond test o None) ≡ true → (test ≡ true) × (leaves leaves_type o ≡ true)
 block_parts leaves_type true o e = (refl, e)
@@ -77,14 +77,21 @@ same_functions f g e =
     let parts = and_parts (table.same_types f.params g.params) (table.same_types f.results g.results) e in
     ap₂ (λ ps rs. record { params = ps; results = rs }) (same_lists f.params g.params parts.0) (same_lists f.results g.results parts.1)
 
+-- where a call stands, by the type of the function
+pub typed_stops : (m : Module) (t : GuestThread) (x : ℕ) (f : FuncType) → table.function_type m x ≡ Some f
+    → ((count : ℕ) (value : Option ℕ) → count ≡ length f.params → HaveTypes f.results (option_to_list value) → IsAnsweredBy m t count value) → Keeps m t (AtCall x)
+typed_stops m t x f type stops count value answer =
+    let same : answer.0 ≡ f = some_same answer.0 f (sym answer.1 ∙ type) in
+    stops count value (answer.2 ∙ ap (λ (g : FuncType). length g.params) same) (subst (λ (g : FuncType). HaveTypes g.results (option_to_list value)) same answer.3)
+
 module _ (m : Module) (r : Running m) (memory : LinearMemory) (is : IsMemory memory) where
   -- ---- blocks
 
-  enters_kept : (test : Bool) (x : Stepped) → IsKept m x → IsKept m (cond test x (Trapped StackFull))
-  enters_kept test x h = kept_either m test x (Trapped StackFull) (λ room. h) (λ full. tt)
+  enters_kept : (test : Bool) (x : Stepped) → Keeps m (as_thread m r) x → Keeps m (as_thread m r) (cond test x (Trapped StackFull))
+  enters_kept test x h = kept_either m (as_thread m r) test x (Trapped StackFull) (λ room. h) (λ full. tt)
 
   pub block_kept : (k : BlockKind) (of : Option ValType) (body rest : Sequence) (types : List ValType) → HaveTypes types r.frame.operands
-      → leaves r.fits.leaves_type (typed r.fits.c r.fits.takes (Block k of body rest) (operands_of types)) ≡ true → IsKept m (step_block memory (as_thread m r) k of body rest)
+      → leaves r.fits.leaves_type (typed r.fits.c r.fits.takes (Block k of body rest) (operands_of types)) ≡ true → Keeps m (as_thread m r) (step_block memory (as_thread m r) k of body rest)
   block_kept kind.Block of body rest types values e =
       let parts = block_parts r.fits.leaves_type (leaves of (typed r.fits.c (of ∷ r.fits.takes) body no_operands)) _ e in
       enters_kept (ltb (label_count (as_thread m r)) most_labels) _
@@ -100,7 +107,7 @@ module _ (m : Module) (r : Running m) (memory : LinearMemory) (is : IsMemory mem
   either_typed false of labels first second e = (and_parts _ _ e).0
 
   pub if_kept : (of : Option ValType) (first second rest : Sequence) (types : List ValType) (operands : List ℕ) → HaveTypes types operands
-      → leaves r.fits.leaves_type (typed r.fits.c r.fits.takes (If of first second rest) (operands_of types)) ≡ true → IsKept m (step_if memory (as_thread m r) of first second rest operands)
+      → leaves r.fits.leaves_type (typed r.fits.c r.fits.takes (If of first second rest) (operands_of types)) ≡ true → Keeps m (as_thread m r) (step_if memory (as_thread m r) of first second rest operands)
   if_kept of first second rest types operands values e =
       let a = behind_some r.fits.leaves_type _ (pop_expected I32 (operands_of types)) e in
       let known = taken_known (I32 ∷ []) types a.0 a.1 in
@@ -109,7 +116,7 @@ module _ (m : Module) (r : Running m) (memory : LinearMemory) (is : IsMemory mem
       by operands known.0 (subst (λ ts. HaveTypes ts operands) known.1 values) parts.0 behind
     where
       by : (vs : List ℕ) (ts : List ValType) → HaveTypes (I32 ∷ ts) vs → (leaves of (typed r.fits.c (of ∷ r.fits.takes) first no_operands) && leaves of (typed r.fits.c (of ∷ r.fits.takes) second no_operands)) ≡ true
-          → leaves r.fits.leaves_type (typed r.fits.c r.fits.takes rest (push_operands (option_to_list of) (operands_of ts))) ≡ true → IsKept m (step_if memory (as_thread m r) of first second rest vs)
+          → leaves r.fits.leaves_type (typed r.fits.c r.fits.takes rest (push_operands (option_to_list of) (operands_of ts))) ≡ true → Keeps m (as_thread m r) (step_if memory (as_thread m r) of first second rest vs)
       by [] ts h inside behind = absurd h
       by (c ∷ vs) ts h inside behind =
           let inner = cond (eqb c 0) second first in
@@ -120,7 +127,7 @@ module _ (m : Module) (r : Running m) (memory : LinearMemory) (is : IsMemory mem
   -- ---- branches
 
   pub branch_kept : (n : ℕ) (of : Option ValType) (operands : List ℕ) (others : List ValType) → slice_get r.fits.takes n ≡ Some of → HaveTypes (reverse (option_to_list of) ++ others) operands
-      → IsKept m (step_branch memory (as_thread m r) r.frame n operands)
+      → Keeps m (as_thread m r) (step_branch memory (as_thread m r) r.frame n operands)
   branch_kept n of operands others at values = by (label_at r.fits.c r.fits.takes r.fits.leaves_type r.frame.labels n of r.fits.labels at) where
     turned : HaveTypes (option_to_list of ++ others) operands
     turned = rw (one_turned of) at values
@@ -129,7 +136,7 @@ module _ (m : Module) (r : Running m) (memory : LinearMemory) (is : IsMemory mem
     taken_by_label count o e h =
         (le-ltb (length operands) count (omega (arith, enough (option_to_list o) others operands h)), rw e (have_take (option_to_list o) others operands h))
 
-    by : LabelAt r.fits.c r.frame.labels n of ⊎ ((n ≡ length r.frame.labels) × (of ≡ r.fits.c.result)) → IsKept m (step_branch memory (as_thread m r) r.frame n operands)
+    by : LabelAt r.fits.c r.frame.labels n of ⊎ ((n ≡ length r.frame.labels) × (of ≡ r.fits.c.result)) → Keeps m (as_thread m r) (step_branch memory (as_thread m r) r.frame n operands)
     by (inl a) =
         let inside : eqb n (length r.frame.labels) ≡ false = ne_eqb n (length r.frame.labels) (λ e. let w = slice_get_within r.frame.labels n a.label a.here in absurd (omega arith)) in
         let top = taken_by_label a.label.arity of a.fits.arity turned in
@@ -145,8 +152,8 @@ module _ (m : Module) (r : Running m) (memory : LinearMemory) (is : IsMemory mem
   -- ---- the end of a function
 
   returned_kept : (f : Frame) (others : List Frame) → FitFrames m (result_of m r.frame.function) others → HaveTypes (option_to_list (result_of m r.frame.function)) (take f.arity f.operands)
-      → IsKept m (Next memory (returned (record { frames = f ∷ others; globals = r.globals; main = r.main; full = r.full })))
-  returned_kept f [] below values = (is, record { frames = tt; globals = r.global_values })
+      → Keeps m (as_thread m r) (Next memory (returned (record { frames = f ∷ others; globals = r.globals; main = r.main; full = r.full })))
+  returned_kept f [] below values = (is, record { frames = tt; globals = r.global_values }, refl)
   returned_kept f (g ∷ gs) below values =
       let fits = below.0 in (
         is,
@@ -166,6 +173,7 @@ module _ (m : Module) (r : Running m) (memory : LinearMemory) (is : IsMemory mem
           );
           globals = r.global_values;
         },
+        refl,
       )
 
   -- the function's result, where it is the last operand
@@ -174,7 +182,7 @@ module _ (m : Module) (r : Running m) (memory : LinearMemory) (is : IsMemory mem
       let top : HaveTypes (option_to_list r.fits.c.result) (take r.frame.arity r.frame.operands) = rw r.fits.arity (have_take (option_to_list r.fits.c.result) others r.frame.operands h) in
       subst (λ o. HaveTypes (option_to_list o) (take r.frame.arity r.frame.operands)) (result_same m r.frame.function r.fits.c r.fits.its_context) top
 
-  pub return_kept : (others : List ValType) → HaveTypes (reverse (option_to_list r.fits.c.result) ++ others) r.frame.operands → IsKept m (step_return memory (as_thread m r) r.frame)
+  pub return_kept : (others : List ValType) → HaveTypes (reverse (option_to_list r.fits.c.result) ++ others) r.frame.operands → Keeps m (as_thread m r) (step_return memory (as_thread m r) r.frame)
   return_kept others h =
       let turned : HaveTypes (option_to_list r.fits.c.result ++ others) r.frame.operands = rw (one_turned r.fits.c.result) at h in
       let test : ltb (length r.frame.operands) r.frame.arity ≡ false = le-ltb (length r.frame.operands) r.frame.arity (omega (arith, enough (option_to_list r.fits.c.result) others r.frame.operands turned, r.fits.arity)) in
@@ -183,7 +191,7 @@ module _ (m : Module) (r : Running m) (memory : LinearMemory) (is : IsMemory mem
   -- ---- calls
 
   called_kept : (typed_module : is_typed m ≡ true) (n : ℕ) (f : FuncType) (rest : Sequence) (operands : List ℕ) → type_of m n ≡ Some f → Takes m r rest f.params f.results operands
-      → IsKept m (resumed memory (called m n (record { frames = record r.frame { operands = operands; code = rest } ∷ r.others; globals = r.globals; main = r.main; full = r.full })))
+      → Keeps m (as_thread m r) (resumed memory (called m n (record { frames = record r.frame { operands = operands; code = rest } ∷ r.others; globals = r.globals; main = r.main; full = r.full })))
   called_kept typed_module n f rest operands type t = by (has_room behind (further_locals m n)) (param_count (type_of m n)) (subst Both (sym (ap param_count type)) both) where
     behind : GuestThread
     behind = record { frames = record r.frame { operands = operands; code = rest } ∷ r.others; globals = r.globals; main = r.main; full = r.full }
@@ -195,39 +203,41 @@ module _ (m : Module) (r : Running m) (memory : LinearMemory) (is : IsMemory mem
     both = called_frames m typed_module n f r.frame r.fits r.fits.takes r.fits.leaves_type operands rest type r.fits.labels t
 
     by : (test : Bool) (count : ℕ) → Both count
-        → IsKept m (resumed memory (cond test (Ok (record behind { frames = entered m n (reverse (take count operands)) ∷ record r.frame { operands = drop count operands; code = rest } ∷ r.others })) (Err StackFull)))
-    by true count fit = (is, record { frames = (fit.0, (fit.1, r.below)); globals = r.global_values })
+        → Keeps m (as_thread m r) (resumed memory (cond test (Ok (record behind { frames = entered m n (reverse (take count operands)) ∷ record r.frame { operands = drop count operands; code = rest } ∷ r.others })) (Err StackFull)))
+    by true count fit = (is, record { frames = (fit.0, (fit.1, r.below)); globals = r.global_values }, refl)
     by false count fit = tt
 
   pub call_kept : (typed_module : is_typed m ≡ true) (x : ℕ) (f : FuncType) (rest : Sequence) (operands : List ℕ) → table.function_type m x ≡ Some f → Takes m r rest f.params f.results operands
-      → IsKept m (step_call m memory (as_thread m r) r.frame x rest operands)
-  call_kept typed_module x f rest operands type t =
+      → Keeps m (as_thread m r) (AtCall x) → Keeps m (as_thread m r) (step_call m memory (as_thread m r) r.frame x rest operands)
+  call_kept typed_module x f rest operands type t stops =
       let long : length f.params ≤ length operands = rw (length-reverse f.params) at (enough (reverse f.params) t.others operands t.values) in
       let test : ltb (length operands) (length f.params) ≡ false = le-ltb (length operands) (length f.params) long in
       let imported = ltb x (length (functions_of m.imports)) in
       let own = λ (e : imported ≡ false). called_kept typed_module (x - length (functions_of m.imports)) f rest operands (own_type m typed_module x f type (ltb-false x (length (functions_of m.imports)) e)) t in
       let answer = value_count (as_thread m r) + length f.results - (length f.params + (length r.frame.operands - length operands)) in
-      rw (type, test) (kept_either m imported _ _ (λ e. kept_either m (leb answer most_values) (AtCall x) (Trapped StackFull) (λ room. tt) (λ full. tt)) own)
+      rw (type, test) (kept_either m (as_thread m r) imported _ _ (λ e. kept_either m (as_thread m r) (leb answer most_values) (AtCall x) (Trapped StackFull) (λ room. stops) (λ full. tt)) own)
 
   pub call_indirect_kept : (typed_module : is_typed m ≡ true) (t : ℕ) (f : FuncType) (rest : Sequence) (operands : List ℕ) → slice_get m.types t ≡ Some f → Takes m r rest (f.params ++ I32 ∷ []) f.results operands
-      → IsKept m (step_call_indirect m memory (as_thread m r) r.frame t rest operands)
-  call_indirect_kept typed_module t f rest [] type taken = absurd (number_first f.params taken.others [] taken.values)
-  call_indirect_kept typed_module t f rest (i ∷ left) type taken = by (table.last_put m.elements i) refl where
+      → ((count : ℕ) (value : Option ℕ) → count ≡ length f.params → HaveTypes f.results (option_to_list value) → IsAnsweredBy m (as_thread m r) count value) → Keeps m (as_thread m r) (step_call_indirect m memory (as_thread m r) r.frame t rest operands)
+  call_indirect_kept typed_module t f rest [] type taken stops = absurd (number_first f.params taken.others [] taken.values)
+  call_indirect_kept typed_module t f rest (i ∷ left) type taken stops = by (table.last_put m.elements i) refl where
     under : Takes m r rest f.params f.results left
     under = record { others = taken.others; values = (number_first f.params taken.others (i ∷ left) taken.values).1; behind = taken.behind }
 
-    by : (put : Option ℕ) → table.last_put m.elements i ≡ put → IsKept m (step_call_indirect m memory (as_thread m r) r.frame t rest (i ∷ left))
-    by None e = rw e (kept_either m (ltb i (table.table_size m)) _ (Trapped UndefinedElement) (λ inside. tt) (λ past. tt))
+    by : (put : Option ℕ) → table.last_put m.elements i ≡ put → Keeps m (as_thread m r) (step_call_indirect m memory (as_thread m r) r.frame t rest (i ∷ left))
+    by None e = rw e (kept_either m (as_thread m r) (ltb i (table.table_size m)) _ (Trapped UndefinedElement) (λ inside. tt) (λ past. tt))
     by (Some x) e =
         let found = placed_typed m typed_module i x e in
-        let call = λ (same : table.same_function_type f found.0 ≡ true). call_kept typed_module x f rest left (found.1 ∙ ap Some (sym (same_functions f found.0 same))) under in
+        let call = λ (same : table.same_function_type f found.0 ≡ true).
+        let its : table.function_type m x ≡ Some f = found.1 ∙ ap Some (sym (same_functions f found.0 same)) in
+        call_kept typed_module x f rest left its under (typed_stops m (as_thread m r) x f its stops) in
         rw (e, type, found.1)
-        (kept_either m (ltb i (table.table_size m)) _ (Trapped UndefinedElement) (λ inside. kept_either m (table.same_function_type f found.0) _ (Trapped TypeMismatch) call (λ other. tt)) (λ past. tt))
+        (kept_either m (as_thread m r) (ltb i (table.table_size m)) _ (Trapped UndefinedElement) (λ inside. kept_either m (as_thread m r) (table.same_function_type f found.0) _ (Trapped TypeMismatch) call (λ other. tt)) (λ past. tt))
 
   -- ---- ends
 
   pub end_kept : (labels : List Label) → Stands r.fits.c labels r.frame.operands Empty
-      → IsKept m (step_end memory (record { frames = record r.frame { labels = labels } ∷ r.others; globals = r.globals; main = r.main; full = r.full }) labels)
+      → Keeps m (as_thread m r) (step_end memory (record { frames = record r.frame { labels = labels } ∷ r.others; globals = r.globals; main = r.main; full = r.full }) labels)
   end_kept [] stands =
       returned_kept (record r.frame { labels = [] }) r.others r.below (its_result [] (rw append-nil (result_stands r.fits.c r.frame.operands stands)))
   end_kept (l ∷ ls) stands =

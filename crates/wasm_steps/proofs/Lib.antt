@@ -7,3 +7,4 @@ pub mod Operands
 pub mod Running
 pub mod ValueSteps
 pub mod Values
+pub mod VariableSteps

@@ -17,7 +17,7 @@ use Rattle.int_ops.specs.Representation.{digit, ibits, modulo, signed, truth}
 use Rattle.wasm_ast.specs.declared.types.IntType.{IntType}
 use Rattle.wasm_ast.specs.declared.types.IntType.TheVariants as int
 use Rattle.wasm_ast.specs.declared.instr.CompareOp.{CompareOp}
-use Rattle.wasm_ast.specs.declared.instr.CompareOp.TheVariants.{Eq, Ne, LtS, LtU, GtS, GtU, LeS, LeU, GeS, GeU}
+use Rattle.wasm_ast.specs.declared.instr.CompareOp.TheVariants.{Eq}
 use Rattle.wasm_ast.specs.declared.instr.UnaryOp.{UnaryOp}
 use Rattle.wasm_ast.specs.declared.instr.UnaryOp.TheVariants.{Clz, Ctz, Popcnt}
 use Rattle.wasm_ast.specs.declared.instr.BinaryOp.{BinaryOp}
