@@ -5,3 +5,4 @@ pub mod Numeric
 pub mod Memory
 pub mod Atomic
 pub mod Step
+pub mod Kept
