@@ -6,7 +6,7 @@ use Rattle.std.specs.Str.{bytes_eq}
 use Rattle.wasm_ast.specs.declared.types.ValType.{ValType}
 use Rattle.wasm_ast.specs.declared.types.ValType.TheVariants.{I32, I64}
 use Rattle.wasm_ast.specs.declared.types.FuncType.{FuncType}
-use Rattle.wasm_steps.specs.Table.{same_types}
+use Rattle.wasm_ast.specs.Table.{same_types}
 
 -- A call: the module and the name by which it is imported, its number, the types of its parameters, and whether it has a
 -- result, which is an i32.

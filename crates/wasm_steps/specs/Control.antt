@@ -9,11 +9,11 @@ use Rattle.wasm_ast.specs.declared.instr.BlockKind.{BlockKind}
 use Rattle.wasm_ast.specs.declared.instr.BlockKind.TheVariants as kind
 use Rattle.wasm_ast.specs.declared.module.Module.{Module}
 use Rattle.wasm_ast.specs.Sequence.{Sequence, Empty, Plain, Block, If}
+use Rattle.wasm_ast.specs.Table.{table_size, last_put, function_type, same_function_type}
 use Rattle.wasm_ast.specs.TypingModule.{functions_of}
 use Rattle.guest_state.specs.GuestThread.{Label, Frame, GuestThread, value_count, label_count, in_frame}
 use Rattle.guest_state.specs.Steps.{most_values, most_labels, opened, closed, branched, left, called, returned}
 use Rattle.wasm_steps.specs.Stepped.{Stepped, Next, Trapped, AtCall, Stuck, goes, leaves}
-use Rattle.wasm_steps.specs.Table.{table_size, last_put, function_type, same_function_type}
 
 -- how many values a block type has
 abbrev pub arity_of : Option ValType → ℕ

@@ -5,10 +5,10 @@ use Rattle.wasm_ast.specs.declared.types.ValType.TheVariants.{I32}
 use Rattle.wasm_ast.specs.declared.instr.BlockKind.{BlockKind}
 use Rattle.wasm_ast.specs.declared.instr.BlockKind.TheVariants as kind
 use Rattle.wasm_ast.specs.Sequence.{Sequence, Empty, Plain, Block, If}
-use Rattle.wasm_ast.specs.Events.{Event, Instruction, Begin, Else, End, is_empty, events}
-use Rattle.wasm_ast.specs.Typing.{Context, Labels, Operands, no_operands, push_operands, pop_expected, after, leaves, typed, label_of, is_body}
-use Rattle.wasm_validate.specs.Blocks.{Enclosing, OpenBlocks, labels_of, first_block, opened, ended}
-use Rattle.wasm_validate.specs.Algorithm.{fitting, with_operands, begun, at_else, at_end, step, behind}
+use Rattle.wasm_ast.specs.Events.{Event, Else, End, is_empty, events}
+use Rattle.wasm_ast.specs.Typing.{Context, Operands, no_operands, push_operands, pop_expected, after, leaves, typed, label_of, is_body}
+use Rattle.wasm_validate.specs.Blocks.{OpenBlocks, labels_of, first_block, opened, ended}
+use Rattle.wasm_validate.specs.Algorithm.{fitting, with_operands, step, behind}
 
 -- what doesn't fit is not mended
 behind_none : (c : Context) (es : List Event) → behind c es None ≡ None

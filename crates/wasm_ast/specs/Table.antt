@@ -1,27 +1,28 @@
 -- The table of a module (WebAssembly Core 1.0, 4.2.7 and 4.5.4): no instruction changes it after the element segments were
 -- written, so the module has it.
-use Rattle.std.specs.Prelude.{ℕ, ◌-◌, nat_lt, nat_le, Bool, true, false, ◌&&◌, if◌then◌else◌, List, [], ◌∷◌, ◌++◌, slice_get, slice_index, Option, Some, None, option_and_then}
-use Rattle.wasm_ast.specs.declared.instr.Instr.{Instr}
-use Rattle.wasm_ast.specs.declared.instr.Instr.TheVariants as instr
-use Rattle.wasm_ast.specs.declared.instr.VariableOp.TheVariants.{GlobalGet}
+use Rattle.std.specs.Prelude.{ℕ, ◌-◌, nat_lt, nat_le, Bool, true, false, ◌&&◌, if◌then◌else◌, List, [], ◌∷◌, ◌++◌, slice_get, Option, Some, None, option_and_then}
+use Rattle.std.specs.Int.{w32, w64, cast_unsigned}
 use Rattle.wasm_ast.specs.declared.types.ValType.{ValType}
 use Rattle.wasm_ast.specs.declared.types.FuncType.{FuncType}
 use Rattle.wasm_ast.specs.declared.types.Limits.{Limits}
+use Rattle.wasm_ast.specs.declared.instr.Instr.{Instr}
+use Rattle.wasm_ast.specs.declared.instr.Instr.TheVariants as instr
 use Rattle.wasm_ast.specs.declared.module.Element.{Element}
 use Rattle.wasm_ast.specs.declared.module.Module.{Module}
 use Rattle.wasm_ast.specs.Sequence.{Sequence, Plain}
 use Rattle.wasm_ast.specs.Types.{same_type}
 use Rattle.wasm_ast.specs.TypingModule.{functions_of}
-use Rattle.guest_state.specs.Module.{constant_value, instruction_constant, first_globals}
 
--- The value of the offset of a segment (4.5.4): a constant, or the value of a global, as it is at first.
-abbrev pub instruction_offset : Module → Instr → ℕ
-instruction_offset m (instr.Variable GlobalGet x) = slice_index (first_globals m) x
-instruction_offset m i = instruction_constant i
+-- The value of a constant expression, as the bits of its type (4.5.3, 4.5.4). That of an imported global, which no linked
+-- program has, is 0.
+abbrev pub instruction_constant : Instr → ℕ
+instruction_constant (instr.I32Const n) = cast_unsigned w32 n
+instruction_constant (instr.I64Const n) = cast_unsigned w64 n
+instruction_constant i = 0
 
-abbrev pub offset_value : Module → Sequence → ℕ
-offset_value m (Plain i rest) = instruction_offset m i
-offset_value m s = 0
+abbrev pub constant_value : Sequence → ℕ
+constant_value (Plain i rest) = instruction_constant i
+constant_value s = 0
 
 -- how many elements the table has
 abbrev pub first_size : List Limits → ℕ
