@@ -37,8 +37,8 @@ further name number params = record { from = wasix; name = name; number = number
 abbrev pub ends : Call → Call
 ends call = record call { gives = false }
 
-abbrev pub wasi_calls : List Call
-wasi_calls =
+unfoldable pub calls : List Call
+calls =
     wasi (codes "args_sizes_get") 10 (i32s 2)
     ∷ wasi (codes "args_get") 11 (i32s 2)
     ∷ wasi (codes "environ_sizes_get") 12 (i32s 2)
@@ -68,11 +68,7 @@ wasi_calls =
     ∷ wasi (codes "poll_oneoff") 36 (i32s 4)
     ∷ ends (wasi (codes "proc_exit") 37 (i32s 1))
     ∷ wasi (codes "sched_yield") 38 []
-    ∷ []
-
-abbrev pub further_calls : List Call
-further_calls =
-    further (codes "fd_dup") 50 (i32s 2)
+    ∷ further (codes "fd_dup") 50 (i32s 2)
     ∷ further (codes "fd_pipe") 51 (i32s 2)
     ∷ further (codes "wx_fd_cloexec") 52 (i32s 2)
     ∷ further (codes "getcwd") 53 (i32s 3)
@@ -96,11 +92,8 @@ further_calls =
     ∷ further (codes "wx_sig_mask") 71 (I32 ∷ I64 ∷ I32 ∷ [])
     ∷ []
 
-abbrev pub calls : List Call
-calls = wasi_calls ++ further_calls
-
 -- names of WASI preview 1 that are imported with any parameters and an i32 as the result, and answer nosys: one call for all
-abbrev pub nosys_names : List (List ℕ)
+unfoldable pub nosys_names : List (List ℕ)
 nosys_names =
     codes "clock_res_get"
     ∷ codes "fd_advise"
@@ -125,8 +118,11 @@ abbrev pub nosys_call : ℕ
 nosys_call = 8
 
 -- the row of a module and a name
+abbrev pub is_named : List ℕ → List ℕ → Call → Bool
+is_named from name call = bytes_eq call.from from && bytes_eq call.name name
+
 abbrev pub call_named : List ℕ → List ℕ → Option Call
-call_named from name = find (λ call. bytes_eq call.from from && bytes_eq call.name name) calls
+call_named from name = find (is_named from name) calls
 
 -- the results of a call as types
 abbrev pub results_of : Bool → List ValType

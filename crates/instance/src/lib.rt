@@ -1,6 +1,7 @@
 //! Programs: modules whose imports are calls of the host, with what they begin with.
 #![tactic(auto)]
 
+mod calls;
 mod fault;
 
 pub use fault::LoadFault;

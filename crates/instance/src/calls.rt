@@ -1,0 +1,247 @@
+// The calls that a program may import, each listed once.
+ghost use Rattle.std.specs.Prelude.{◌≡◌, map, find, option_map};
+ghost use Rattle.std.specs.List.{list_any};
+ghost use Rattle.std.specs.Str.{bytes_eq};
+ghost use Rattle.wasm_ast.specs.Table.{same_types};
+ghost use Rattle.instance.specs.Calls.{calls, nosys_names, call_number, is_named, is_nosys, number_with_type, results_of};
+ghost use Rattle.instance.specs.Rows.{call_of_row};
+
+use wasm_ast::ValType::{I32, I64};
+use wasm_ast::{FuncType, ValType};
+
+/// The module of the calls of WASI preview 1.
+const PREVIEW1: &[u8] = b"wasi_snapshot_preview1";
+
+/// The module of the further calls.
+const WASIX: &[u8] = b"wasix_32v1";
+
+/// The number of the one call for all names that answer nosys.
+const NOSYS: u16 = 8;
+
+/// A call: the module and the name by which it is imported, its number, the types of its parameters, and whether it
+/// gives an i32.
+#[derive(Clone, Copy)]
+struct Row(&'static [u8], &'static [u8], u16, &'static [ValType], bool);
+
+/// The calls with their types.
+#[tactic(auto, unfolding(crate::specs::Calls::calls))]
+fn rows() -> [Row; 51]
+    ensures { map call_of_row result ≡ calls }
+{
+    [
+        Row(PREVIEW1, b"args_sizes_get", 10, &[I32, I32], true),
+        Row(PREVIEW1, b"args_get", 11, &[I32, I32], true),
+        Row(PREVIEW1, b"environ_sizes_get", 12, &[I32, I32], true),
+        Row(PREVIEW1, b"environ_get", 13, &[I32, I32], true),
+        Row(PREVIEW1, b"clock_time_get", 14, &[I32, I64, I32], true),
+        Row(PREVIEW1, b"fd_close", 15, &[I32], true),
+        Row(PREVIEW1, b"fd_read", 16, &[I32, I32, I32, I32], true),
+        Row(PREVIEW1, b"fd_write", 17, &[I32, I32, I32, I32], true),
+        Row(PREVIEW1, b"fd_pread", 18, &[I32, I32, I32, I64, I32], true),
+        Row(PREVIEW1, b"fd_pwrite", 19, &[I32, I32, I32, I64, I32], true),
+        Row(PREVIEW1, b"fd_seek", 20, &[I32, I64, I32, I32], true),
+        Row(PREVIEW1, b"fd_tell", 21, &[I32, I32], true),
+        Row(PREVIEW1, b"fd_fdstat_get", 22, &[I32, I32], true),
+        Row(PREVIEW1, b"fd_fdstat_set_flags", 23, &[I32, I32], true),
+        Row(PREVIEW1, b"fd_filestat_get", 24, &[I32, I32], true),
+        Row(PREVIEW1, b"fd_filestat_set_size", 25, &[I32, I64], true),
+        Row(PREVIEW1, b"fd_prestat_get", 26, &[I32, I32], true),
+        Row(PREVIEW1, b"fd_prestat_dir_name", 27, &[I32, I32, I32], true),
+        Row(
+            PREVIEW1,
+            b"fd_readdir",
+            28,
+            &[I32, I32, I32, I64, I32],
+            true,
+        ),
+        Row(PREVIEW1, b"fd_renumber", 29, &[I32, I32], true),
+        Row(
+            PREVIEW1,
+            b"path_open",
+            30,
+            &[I32, I32, I32, I32, I32, I64, I64, I32, I32],
+            true,
+        ),
+        Row(
+            PREVIEW1,
+            b"path_create_directory",
+            31,
+            &[I32, I32, I32],
+            true,
+        ),
+        Row(PREVIEW1, b"path_unlink_file", 32, &[I32, I32, I32], true),
+        Row(
+            PREVIEW1,
+            b"path_remove_directory",
+            33,
+            &[I32, I32, I32],
+            true,
+        ),
+        Row(
+            PREVIEW1,
+            b"path_rename",
+            34,
+            &[I32, I32, I32, I32, I32, I32],
+            true,
+        ),
+        Row(
+            PREVIEW1,
+            b"path_filestat_get",
+            35,
+            &[I32, I32, I32, I32, I32],
+            true,
+        ),
+        Row(PREVIEW1, b"poll_oneoff", 36, &[I32, I32, I32, I32], true),
+        Row(PREVIEW1, b"proc_exit", 37, &[I32], false),
+        Row(PREVIEW1, b"sched_yield", 38, &[], true),
+        Row(WASIX, b"fd_dup", 50, &[I32, I32], true),
+        Row(WASIX, b"fd_pipe", 51, &[I32, I32], true),
+        Row(WASIX, b"wx_fd_cloexec", 52, &[I32, I32], true),
+        Row(WASIX, b"getcwd", 53, &[I32, I32, I32], true),
+        Row(WASIX, b"chdir", 54, &[I32, I32], true),
+        Row(WASIX, b"proc_id", 55, &[I32], true),
+        Row(WASIX, b"proc_parent", 56, &[I32], true),
+        Row(WASIX, b"proc_fork", 57, &[I32], true),
+        Row(WASIX, b"proc_exec", 58, &[I32, I32, I32, I32], true),
+        Row(WASIX, b"proc_spawn", 59, &[I32, I32, I32, I32, I32], true),
+        Row(WASIX, b"proc_join", 60, &[I32, I32, I32], true),
+        Row(WASIX, b"proc_signal", 61, &[I32, I32], true),
+        Row(WASIX, b"thread_spawn", 62, &[I32, I32], true),
+        Row(WASIX, b"thread_id", 63, &[I32], true),
+        Row(WASIX, b"thread_join", 64, &[I32], true),
+        Row(WASIX, b"thread_exit", 65, &[I32], false),
+        Row(WASIX, b"thread_sleep", 66, &[I64], true),
+        Row(WASIX, b"futex_wait", 67, &[I32, I32, I64, I32], true),
+        Row(WASIX, b"futex_wake", 68, &[I32, I32, I32], true),
+        Row(WASIX, b"callback_signal", 69, &[I32, I32], true),
+        Row(WASIX, b"wx_sig_action", 70, &[I32, I32], true),
+        Row(WASIX, b"wx_sig_mask", 71, &[I32, I64, I32], true),
+    ]
+}
+
+/// The names of WASI preview 1 that answer nosys.
+#[tactic(auto, unfolding(crate::specs::Calls::nosys_names))]
+fn nosys_names() -> [&'static [u8]; 17]
+    ensures { map (λ name. name.now) result ≡ nosys_names }
+{
+    [
+        b"clock_res_get",
+        b"fd_advise",
+        b"fd_allocate",
+        b"fd_datasync",
+        b"fd_fdstat_set_rights",
+        b"fd_filestat_set_times",
+        b"fd_sync",
+        b"path_filestat_set_times",
+        b"path_link",
+        b"path_readlink",
+        b"path_symlink",
+        b"proc_raise",
+        b"random_get",
+        b"sock_accept",
+        b"sock_recv",
+        b"sock_send",
+        b"sock_shutdown",
+    ]
+}
+
+/// Whether two lists of types are the same.
+pub fn same_types(types: &[ValType], others: &[ValType]) -> bool
+    ensures { result ≡ same_types types.now others.now }
+{
+    if types.len() != others.len() {
+        return false;
+    }
+    for i in 0..types.len() {
+        if !types[i].is(others[i]) {
+            return false;
+        }
+    }
+    true
+}
+
+/// The row of a module and a name, if there is one.
+fn row_named<'a>(rows: &'a [Row], from: &[u8], name: &[u8]) -> Option<&'a Row>
+    ensures { option_map (λ row. call_of_row row.now) result ≡ find (is_named from.now name.now) (map call_of_row rows.now) }
+{
+    for row in rows {
+        if row.0 == from && row.1 == name {
+            return Some(row);
+        }
+    }
+    None
+}
+
+/// Whether a name is among some.
+fn is_among(names: &[&'static [u8]], name: &[u8]) -> bool
+    ensures { result ≡ list_any (λ known. bytes_eq known name.now) (map (λ known. known.now) names.now) }
+{
+    for known in names {
+        if *known == name {
+            return true;
+        }
+    }
+    false
+}
+
+/// The results of a call.
+fn results(gives: bool) -> &'static [ValType]
+    ensures { result.now ≡ results_of gives }
+{
+    if gives { &[I32] } else { &[] }
+}
+
+/// The number of a call, where a function's type is that of the call.
+fn number_with_type(row: &Row, of: &FuncType) -> Option<u16>
+    ensures { result ≡ number_with_type of.now (call_of_row row.now) }
+{
+    if same_types(row.3, of.params.as_slice())
+        && same_types(results(row.4), of.results.as_slice())
+    {
+        Some(row.2)
+    } else {
+        None
+    }
+}
+
+/// The table of the calls.
+pub struct Calls {
+    rows: [Row; 51],
+    nosys: [&'static [u8]; 17],
+    ghost all: { map call_of_row rows ≡ calls },
+    ghost all_nosys: { map (λ name. name.now) nosys ≡ nosys_names },
+}
+
+impl Calls {
+    /// The table.
+    pub fn new() -> Calls {
+        Calls {
+            rows: rows(),
+            nosys: nosys_names(),
+        }
+    }
+
+    /// Whether a name is one that answers nosys.
+    fn is_nosys(&self, from: &[u8], name: &[u8]) -> bool
+        ensures { result ≡ is_nosys from.now name.now }
+    {
+        PREVIEW1 == from && is_among(&self.nosys, name)
+    }
+
+    /// The number of the call that a function imported from this module, by this name and with this type, is; none where
+    /// it is no call, or one of another type.
+    pub fn number(&self, from: &[u8], name: &[u8], of: &FuncType) -> Option<u16>
+        ensures { result ≡ call_number from.now name.now of.now }
+    {
+        if self.is_nosys(from, name) {
+            if same_types(of.results.as_slice(), results(true)) {
+                return Some(NOSYS);
+            }
+            return None;
+        }
+        match row_named(&self.rows, from, name) {
+            Some(row) => number_with_type(row, of),
+            None => None,
+        }
+    }
+}
