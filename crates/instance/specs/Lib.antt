@@ -3,4 +3,6 @@ pub mod Rows
 pub mod Offsets
 pub mod Program
 pub mod Links
+pub mod Waiting
+pub mod Kept
 pub mod Loads

@@ -1,6 +1,6 @@
 -- Which modules link, and the program that one is (WebAssembly Core 1.0, 4.5.4). What the imports may be is this project's own.
 use Rattle.std.specs.Prelude.{ℕ, ◌+◌, ◌==◌, nat_le, Bool, true, false, ◌&&◌, ◌||◌, not, if◌then◌else◌, length, slice_get, codes, filter_map, Option, None, is_some, option_and_then, Result, Ok, Err}
-use Rattle.std.specs.List.{list_all}
+use Rattle.std.specs.List.{list_all, list_any}
 use Rattle.std.specs.Str.{bytes_eq}
 use Rattle.linear_memory.specs.LinearMemory.{is_within}
 use Rattle.wasm_ast.specs.declared.instr.Instr.{Instr}
@@ -12,10 +12,10 @@ use Rattle.wasm_ast.specs.declared.module.ImportKind.TheVariants as imported
 use Rattle.wasm_ast.specs.declared.module.Import.{Import}
 use Rattle.wasm_ast.specs.declared.module.Element.{Element}
 use Rattle.wasm_ast.specs.declared.module.Segment.{Segment}
+use Rattle.wasm_ast.specs.declared.module.Code.{Code}
 use Rattle.wasm_ast.specs.declared.module.Module.{Module}
 use Rattle.wasm_ast.specs.Sequence.{Sequence, Empty, Plain, Block, If}
 use Rattle.wasm_ast.specs.TypingModule.{is_typed}
-use Rattle.wasm_decode.specs.Bodies.{any_body}
 use Rattle.wasm_ast.specs.Table.{table_size}
 use Rattle.instance.specs.declared.fault.LoadFault.{LoadFault}
 use Rattle.instance.specs.declared.fault.LoadFault.TheVariants.{Invalid, Unlinked, SegmentOutside, NotYet}
@@ -90,9 +90,13 @@ waits (Plain i rest) = instruction_waits i || waits rest
 waits (Block kind of body rest) = waits body || waits rest
 waits (If of first second rest) = (waits first || waits second) || waits rest
 
+-- a function waits or notifies: a constant expression doesn't
+abbrev pub any_waits : Module → Bool
+any_waits m = list_any (λ (c : Code). waits c.body) m.codes
+
 -- each call is one that the host answers, and nothing waits or notifies
 abbrev pub is_answered : Program → Bool
-is_answered program = list_all is_built program.calls && not (any_body waits program.module)
+is_answered program = list_all is_built program.calls && not (any_waits program.module)
 
 -- ---- the order of the faults of a module that was read
 

@@ -1,5 +1,5 @@
 -- What loading bytes answers: the program, or the first fault.
-use Rattle.std.specs.Prelude.{◌≡◌, ℕ, List, Result, Ok, Err}
+use Rattle.std.specs.Prelude.{◌≡◌, ◌⊎◌, ℕ, List, Result, Ok, Err}
 use Rattle.wasm_ast.specs.declared.module.Module.{Module}
 use Rattle.wasm_decode.specs.declared.fault.DecodeFault.TheVariants as decoding
 use Rattle.wasm_decode.specs.Decodes.{AreWithin, Decodes}
@@ -24,3 +24,7 @@ Loads bytes (Err Unlinked) = Links bytes (Err Unlinked)
 Loads bytes (Err SegmentOutside) = Links bytes (Err SegmentOutside)
 Loads bytes (Err NotYet) = Links bytes (Err NotYet)
 Loads bytes (Err Memory) = AreWithin bytes
+
+-- that answer, or want of memory
+abbrev pub IsUnlessMemory : Result Program LoadFault → Result Program LoadFault → Type 0
+IsUnlessMemory result answer = (result ≡ answer) ⊎ (result ≡ Err Memory)

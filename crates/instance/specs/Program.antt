@@ -1,5 +1,6 @@
 -- Programs, and what a process that runs one begins with (WebAssembly Core 1.0, 4.5.4).
-use Rattle.std.specs.Prelude.{ℕ, nat_le, Bool, true, false, ◌&&◌, if◌then◌else◌, List, [], ◌∷◌, ◌++◌, length, slice_get, codes, fold, find, filter_map, Option, Some, None, option_and_then, unwrap_or}
+use Rattle.std.specs.Coded.{Coded, code_by, coded×, coded_list, coded_ℕ}
+use Rattle.std.specs.Prelude.{refl, ℕ, nat_le, Bool, true, false, ◌&&◌, if◌then◌else◌, List, [], ◌∷◌, ◌++◌, length, slice_get, codes, fold, find, filter_map, Option, Some, None, option_and_then, unwrap_or}
 use Rattle.std.specs.Str.{bytes_eq}
 use Rattle.linear_memory.specs.LinearMemory.{LinearMemory, zero_pages, with_bytes}
 use Rattle.wasm_ast.specs.declared.types.ValType.{ValType}
@@ -14,17 +15,24 @@ use Rattle.wasm_ast.specs.declared.module.ExportKind.TheVariants as exported
 use Rattle.wasm_ast.specs.declared.module.Export.{Export}
 use Rattle.wasm_ast.specs.declared.module.Segment.{Segment}
 use Rattle.wasm_ast.specs.declared.module.Module.{Module}
+use Rattle.wasm_ast.specs.contracts.module.Module as the_module
 use Rattle.wasm_ast.specs.TypingModule.{functions_of}
 use Rattle.guest_state.specs.GuestThread.{GuestThread}
 use Rattle.guest_state.specs.Module.{own_function}
 use Rattle.guest_state.specs.Steps.{entered, started}
 use Rattle.wasm_ast.specs.Table.{function_type, same_types}
+use Rattle.instance.specs.declared.exports.ExportKind.{ExportKind as ExportedFor}
+use Rattle.instance.specs.declared.exports.ExportKind.TheVariants.{Start, ThreadStart, Handler}
 use Rattle.instance.specs.Offsets.{offset_value}
 
 -- a module whose imports are linked: the number of the call that each imported function is, in the order of the imports
 pub record Program : Type 0 where
   pub «module» : Module
   pub calls : List ℕ
+
+-- as the pair of its fields
+abbrev pub program_code : Coded Program
+program_code = code_by (Module × List ℕ) (coded× the_module.the_row.coded (coded_list coded_ℕ)) (λ p. (p.module, p.calls)) (λ p. record { «module» = p.0; calls = p.1 }) (λ p. refl)
 
 -- the call that an imported function is, by its index
 abbrev pub call_of : Program → ℕ → Option ℕ
@@ -49,17 +57,15 @@ abbrev pub exported_function : Module → List ℕ → List ValType → Option �
 exported_function m name params =
     option_and_then (λ (e : Export). exported_of_type m params e.kind) (find (λ (e : Export). bytes_eq e.name name) m.exports)
 
+-- the parameters of a function that is exported for a purpose
+abbrev pub params_of : ExportedFor → List ValType
+params_of Start = []
+params_of ThreadStart = I32 ∷ I32 ∷ []
+params_of Handler = I32 ∷ []
+
 -- where a program begins: each has such a function
 abbrev pub main_function : Module → Option ℕ
-main_function m = exported_function m (codes "_start") []
-
--- where a further thread begins, with its number and an argument
-abbrev pub thread_function : Module → Option ℕ
-thread_function m = exported_function m (codes "wasi_thread_start") (I32 ∷ I32 ∷ [])
-
--- a function that may handle signals: it takes the signal's number
-abbrev pub handler_function : Module → List ℕ → Option ℕ
-handler_function m name = exported_function m name (I32 ∷ [])
+main_function m = exported_function m (codes "_start") (params_of Start)
 
 -- ---- memory
 

@@ -205,6 +205,7 @@ fn number_with_type(row: &Row, of: &FuncType) -> Option<u16>
 }
 
 /// The table of the calls.
+#[derive(Drop)]
 pub struct Calls {
     rows: [Row; 51],
     nosys: [&'static [u8]; 17],

@@ -1,5 +1,9 @@
 //! Why bytes could not be loaded as a program.
 
+ghost use Rattle.std.specs.Prelude.{◌≡◌};
+ghost use Rattle.instance.specs.declared.fault.LoadFault.TheVariants.{Memory};
+
+use std::alloc::AllocError;
 use thiserror::Error;
 use wasm_decode::Bound;
 
@@ -33,4 +37,12 @@ pub enum LoadFault {
     /// There is not enough memory.
     #[error("out of memory")]
     Memory,
+}
+
+impl From<AllocError> for LoadFault {
+    ghost from_gives = { λ _ fault. fault ≡ Memory };
+
+    fn from(_want: AllocError) -> LoadFault {
+        LoadFault::Memory
+    }
 }

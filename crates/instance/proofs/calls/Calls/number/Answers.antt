@@ -1,4 +1,4 @@
-use Rattle.std.proofs.Common.{Some, None, map, refl, sym, ◌∙◌}
+use Rattle.std.proofs.Common.{Some, None, map, refl}
 use Rattle.instance.specs.Rows.{call_of_row}
 use Rattle.instance.proofs.CallLemmas.{number_found}
 use Rattle.instance.proofs.calls.Calls.number.Goals as goal

@@ -1,0 +1,87 @@
+// Programs from the bytes of modules.
+ghost use Rattle.std.specs.Prelude.{◌≡◌, None};
+ghost use Rattle.wasm_decode.specs.Bounds.{first_passed};
+ghost use Rattle.instance.specs.Links.{linked};
+ghost use Rattle.instance.specs.Loads.{IsUnlessMemory, Loads};
+
+use crate::exports::{ExportKind, by_name, exported_function};
+use crate::fault::LoadFault;
+use crate::links::{are_built, call_numbers};
+use crate::program::Program;
+use crate::segments::{memory_limits, segments_fit};
+use crate::waits::any_waits;
+use std::alloc::Global;
+use wasm_ast::Module;
+use wasm_decode::{DecodeFault, decode};
+use wasm_validate::{Valid, ValidateFault, validate};
+
+/// The program that a typed module is which passes no limit, or the first fault of linking.
+fn linked(alloc: Global, valid: Valid) -> Result<Program, LoadFault>
+    requires { first_passed valid ≡ None }
+    ensures { IsUnlessMemory result (linked valid) }
+{
+    let module = valid.module();
+    let Some(calls) = call_numbers(alloc, module)? else {
+        return Err(LoadFault::Unlinked);
+    };
+    let exports = by_name(alloc, module.exports.as_slice())?;
+    let Some(main) = exported_function(
+        &valid,
+        &exports,
+        b"_start".as_slice(),
+        ExportKind::Start.params(),
+    ) else {
+        return Err(LoadFault::Unlinked);
+    };
+    if !segments_fit(module) {
+        return Err(LoadFault::SegmentOutside);
+    }
+    if !are_built(calls.as_slice()) || any_waits(alloc, module)? {
+        return Err(LoadFault::NotYet);
+    }
+    let memory = memory_limits(module);
+    Ok(Program {
+        valid,
+        calls,
+        exports,
+        main,
+        memory,
+    })
+}
+
+/// The program that a module is which passes no limit, or its first fault.
+fn validated(alloc: Global, module: Module) -> Result<Program, LoadFault>
+    requires { first_passed «module» ≡ None }
+    ensures { IsUnlessMemory result (linked «module») }
+{
+    match validate(alloc, module) {
+        Ok(valid) => linked(alloc, valid),
+        Err(ValidateFault::Invalid) => Err(LoadFault::Invalid),
+        Err(ValidateFault::Memory) => Err(LoadFault::Memory),
+    }
+}
+
+/// Loads a program from all bytes of a module in the binary format. The faults are tested in this order:
+///
+/// - `Limit(Length)` exactly where there are more than 4,194,304 bytes;
+/// - `Malformed` exactly where the bytes spell no module, floats included;
+/// - `Float` exactly where the module has a floating-point type or instruction;
+/// - `Limit` exactly where it passes a limit, with the first in the order of `Bound`;
+/// - `Invalid` exactly where it isn't typed;
+/// - `Unlinked` exactly where an import is neither a call with its type nor the memory `memory` of `env`, or where no
+///   function of the module's own that takes and gives nothing is exported as `_start`;
+/// - `SegmentOutside` exactly where an element or data segment passes the table or the memory as it is at first;
+/// - `NotYet` exactly where it imports a call other than `fd_write` and `proc_exit`, or has a wait or a notify.
+///
+/// `Memory` is want of memory, and may come in the place of each answer but `Limit(Length)`.
+pub fn load(alloc: Global, bytes: &[u8]) -> Result<Program, LoadFault>
+    ensures { Loads bytes.now result }
+{
+    match decode(alloc, bytes) {
+        Ok(module) => validated(alloc, module),
+        Err(DecodeFault::Malformed) => Err(LoadFault::Malformed),
+        Err(DecodeFault::Float) => Err(LoadFault::Float),
+        Err(DecodeFault::Limit(bound)) => Err(LoadFault::Limit(bound)),
+        Err(DecodeFault::Memory) => Err(LoadFault::Memory),
+    }
+}
