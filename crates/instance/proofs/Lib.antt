@@ -1,5 +1,6 @@
-mod Examples
+pub mod AgreeLemmas
 pub mod CallLemmas
+pub mod Examples
 pub mod LinkLemmas
 pub mod LoadLemmas
 pub mod MemoryLemmas

@@ -1,7 +1,7 @@
 -- What follows for a module whose imports link.
-use Rattle.std.proofs.Common.{◌≡◌, ℕ, zero, suc, ◌≤◌, Bool, true, false, not, ◌&&◌, ◌||◌, cond, if◌then◌else◌, List, [], ◌∷◌, ◌++◌, Option, Some, None, option_and_then, is_some, find, filter_map, refl, sym, ap, ◌∙◌}
-use Rattle.std.specs.Prelude.{slice_get, IfSome}
-use Rattle.std.specs.List.{list_all, list_any}
+use Rattle.std.proofs.Common.{◌≡◌, ℕ, zero, suc, ◌≤◌, Bool, true, false, not, ◌&&◌, ◌||◌, cond, if◌then◌else◌, List, [], ◌∷◌, ◌++◌, Option, Some, None, option_and_then, is_some, find, filter_map, refl, sym, ap, arith, ◌∙◌, length, ◌<◌}
+use Rattle.std.specs.Prelude.{slice_get, IfSome, IsSome}
+use Rattle.std.specs.List.{cons_option, list_all, list_any}
 use Rattle.std.proofs.lemmas.Bool.{and_parts, ltb-false}
 use Rattle.wasm_ast.specs.declared.types.ValType.{ValType}
 use Rattle.wasm_ast.specs.declared.types.FuncType.{FuncType}
@@ -15,11 +15,48 @@ use Rattle.wasm_ast.specs.TypingModule.{function_of, functions_of, global_of, gl
 use Rattle.wasm_decode.specs.declared.fault.Bound.TheVariants.{Types, Functions, Locals, Nesting, Table, Pages}
 use Rattle.wasm_decode.specs.Bounds.{any_has_many, first_passed, has_many_pages, import_has_many_pages}
 use Rattle.instance.specs.Calls.{Call, calls, call_number, is_named, is_nosys, number_with_type, results_of}
-use Rattle.instance.specs.Links.{import_links, links}
+use Rattle.instance.specs.Links.{any_waits, import_call, import_links, is_answered, is_built, links}
 use Rattle.instance.specs.Program.{imported_memory, main_function, memory_limits}
 
 pub all_link : (m : Module) → links m ≡ true → list_all (import_links m) m.imports ≡ true
 all_link m h = (and_parts (list_all (import_links m) m.imports) (is_some (main_function m)) h).0
+
+-- the call of an import that is a function
+pub call_of_function : (m : Module) (i : Import) (of : ℕ) (type : Option FuncType) (n : Option ℕ) → i.kind ≡ imported.Func of → type ≡ slice_get m.types of → n ≡ option_and_then (call_number i.module i.name) type → n ≡ import_call m i
+call_of_function m i of type n kind its number =
+    number ∙ ap (option_and_then (call_number i.module i.name)) its ∙ ap (λ (k : ImportKind). import_call m (record { «module» = i.module; name = i.name; kind = k })) (sym kind)
+
+-- ---- there are as many calls as imported functions
+
+one_more : (o : Option ℕ) (xs : List ℕ) → (is_some o || false) ≡ true → length (cons_option o xs) ≡ suc (length xs)
+one_more None xs h = absurd (cc)
+one_more (Some n) xs h = refl
+
+kind_counted : (m : Module) (a b : List ℕ) (k : ImportKind) (is : List Import) → import_links m (record { «module» = a; name = b; kind = k }) ≡ true → length (filter_map (import_call m) is) ≡ length (functions_of is)
+    → length (filter_map (import_call m) (record { «module» = a; name = b; kind = k } ∷ is)) ≡ length (function_of k (functions_of is))
+kind_counted m a b (imported.Func of) is h e = one_more (option_and_then (call_number a b) (slice_get m.types of)) (filter_map (import_call m) is) h ∙ ap (λ n. suc n) e
+kind_counted m a b (imported.Table limits) is h e = e
+kind_counted m a b (imported.Memory limits) is h e = e
+kind_counted m a b (imported.Global of mutable) is h e = e
+
+pub as_many : (m : Module) (is : List Import) → list_all (import_links m) is ≡ true → length (filter_map (import_call m) is) ≡ length (functions_of is)
+as_many m [] h = refl
+as_many m (i ∷ is) h =
+    let parts = and_parts (import_links m i) (list_all (import_links m) is) h in
+    kind_counted m i.module i.name i.kind is parts.0 (as_many m is parts.1)
+
+pub each_built : (calls : List ℕ) (n : ℕ) → list_all is_built calls ≡ true → IfSome (slice_get calls n) (λ call. is_built call ≡ true)
+each_built [] n h = tt
+each_built (call ∷ calls) zero h = (and_parts (is_built call) (list_all is_built calls) h).0
+each_built (call ∷ calls) (suc n) h = each_built calls n (and_parts (is_built call) (list_all is_built calls) h).1
+
+pub all_built : (m : Module) (calls : List ℕ) → is_answered (record { «module» = m; calls = calls }) ≡ true → list_all is_built calls ≡ true
+all_built m calls h = (and_parts (list_all is_built calls) (not (any_waits m)) h).0
+
+pub got_some : (xs : List ℕ) (n : ℕ) → n < length xs → IsSome (slice_get xs n)
+got_some [] n h = absurd (omega arith)
+got_some (x ∷ xs) zero h = refl
+got_some (x ∷ xs) (suc n) h = got_some xs n (omega arith)
 
 -- ---- no global is imported
 
@@ -47,7 +84,6 @@ abbrev takes_or_gives : Call → Bool
 takes_or_gives call = not (same_types call.params [] && same_types (results_of call.gives) [])
 
 all_take_or_give : list_all takes_or_gives calls ≡ true
-unfolding calls
 all_take_or_give = refl
 
 not_with_type : (b : Bool) (n : ℕ) → not b ≡ true → cond b (Some n) None ≡ None

@@ -1,12 +1,43 @@
 -- The calls that a program may import, each listed once: those of WASI preview 1, with the standard's names and types, and
 -- further ones, whose names, types and, for all of them, numbers are this project's own.
-use Rattle.std.specs.Prelude.{ℕ, Bool, true, false, ◌&&◌, if◌then◌else◌, List, [], ◌∷◌, Option, Some, None, option_and_then, find, codes, replicate}
+use Rattle.std.specs.Prelude.{ℕ, Bool, true, false, ◌&&◌, if◌then◌else◌, List, [], ◌∷◌, ◌++◌, Option, Some, None, option_and_then, find, codes, replicate}
 use Rattle.std.specs.List.{list_any}
 use Rattle.std.specs.Str.{bytes_eq}
 use Rattle.wasm_ast.specs.declared.types.ValType.{ValType}
 use Rattle.wasm_ast.specs.declared.types.ValType.TheVariants.{I32, I64}
 use Rattle.wasm_ast.specs.declared.types.FuncType.{FuncType}
 use Rattle.wasm_ast.specs.Table.{same_types}
+
+-- What ends a slice and is no row of the table has a number too. There is no such thread; the slice was spent; no fuel is left;
+-- the next step traps; the last frame has returned.
+abbrev pub no_call : ℕ
+no_call = 0
+
+abbrev pub spent : ℕ
+spent = 1
+
+abbrev pub out_of_fuel : ℕ
+out_of_fuel = 2
+
+abbrev pub trapped : ℕ
+trapped = 3
+
+abbrev pub last_return : ℕ
+last_return = 4
+
+-- the waits and the notify of the threads proposal, which are instructions
+abbrev pub wait32 : ℕ
+wait32 = 5
+
+abbrev pub wait64 : ℕ
+wait64 = 6
+
+abbrev pub notify : ℕ
+notify = 7
+
+-- each of the names that answer nosys
+abbrev pub nosys_call : ℕ
+nosys_call = 8
 
 -- A call: the module and the name by which it is imported, its number, the types of its parameters, and whether it has a
 -- result, which is an i32.
@@ -37,8 +68,8 @@ further name number params = record { from = wasix; name = name; number = number
 abbrev pub ends : Call → Call
 ends call = record call { gives = false }
 
-unfoldable pub calls : List Call
-calls =
+abbrev pub wasi_calls : List Call
+wasi_calls =
     wasi (codes "args_sizes_get") 10 (i32s 2)
     ∷ wasi (codes "args_get") 11 (i32s 2)
     ∷ wasi (codes "environ_sizes_get") 12 (i32s 2)
@@ -68,7 +99,11 @@ calls =
     ∷ wasi (codes "poll_oneoff") 36 (i32s 4)
     ∷ ends (wasi (codes "proc_exit") 37 (i32s 1))
     ∷ wasi (codes "sched_yield") 38 []
-    ∷ further (codes "fd_dup") 50 (i32s 2)
+    ∷ []
+
+abbrev pub further_calls : List Call
+further_calls =
+    further (codes "fd_dup") 50 (i32s 2)
     ∷ further (codes "fd_pipe") 51 (i32s 2)
     ∷ further (codes "wx_fd_cloexec") 52 (i32s 2)
     ∷ further (codes "getcwd") 53 (i32s 3)
@@ -92,8 +127,11 @@ calls =
     ∷ further (codes "wx_sig_mask") 71 (I32 ∷ I64 ∷ I32 ∷ [])
     ∷ []
 
+abbrev pub calls : List Call
+calls = wasi_calls ++ further_calls
+
 -- names of WASI preview 1 that are imported with any parameters and an i32 as the result, and answer nosys: one call for all
-unfoldable pub nosys_names : List (List ℕ)
+abbrev pub nosys_names : List (List ℕ)
 nosys_names =
     codes "clock_res_get"
     ∷ codes "fd_advise"
@@ -113,9 +151,6 @@ nosys_names =
     ∷ codes "sock_send"
     ∷ codes "sock_shutdown"
     ∷ []
-
-abbrev pub nosys_call : ℕ
-nosys_call = 8
 
 -- the row of a module and a name
 abbrev pub is_named : List ℕ → List ℕ → Call → Bool

@@ -21,9 +21,9 @@ use Rattle.guest_state.specs.GuestThread.{GuestThread}
 use Rattle.guest_state.specs.Module.{own_function}
 use Rattle.guest_state.specs.Steps.{entered, started}
 use Rattle.wasm_ast.specs.Table.{function_type, same_types}
+use Rattle.instance.specs.Offsets.{offset_value}
 use Rattle.instance.specs.declared.exports.ExportKind.{ExportKind as ExportedFor}
 use Rattle.instance.specs.declared.exports.ExportKind.TheVariants.{Start, ThreadStart, Handler}
-use Rattle.instance.specs.Offsets.{offset_value}
 
 -- a module whose imports are linked: the number of the call that each imported function is, in the order of the imports
 pub record Program : Type 0 where
@@ -57,7 +57,8 @@ abbrev pub exported_function : Module → List ℕ → List ValType → Option �
 exported_function m name params =
     option_and_then (λ (e : Export). exported_of_type m params e.kind) (find (λ (e : Export). bytes_eq e.name name) m.exports)
 
--- the parameters of a function that is exported for a purpose
+-- what such a function takes: where a program begins nothing, where a further thread begins its number and an argument, and
+-- where signals are handled the signal's number
 abbrev pub params_of : ExportedFor → List ValType
 params_of Start = []
 params_of ThreadStart = I32 ∷ I32 ∷ []
@@ -66,6 +67,14 @@ params_of Handler = I32 ∷ []
 -- where a program begins: each has such a function
 abbrev pub main_function : Module → Option ℕ
 main_function m = exported_function m (codes "_start") (params_of Start)
+
+-- where a further thread begins
+abbrev pub thread_function : Module → Option ℕ
+thread_function m = exported_function m (codes "wasi_thread_start") (params_of ThreadStart)
+
+-- a function that may handle signals
+abbrev pub handler_function : Module → List ℕ → Option ℕ
+handler_function m name = exported_function m name (params_of Handler)
 
 -- ---- memory
 

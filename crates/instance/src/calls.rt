@@ -24,7 +24,6 @@ const NOSYS: u16 = 8;
 struct Row(&'static [u8], &'static [u8], u16, &'static [ValType], bool);
 
 /// The calls with their types.
-#[tactic(auto, unfolding(crate::specs::Calls::calls))]
 fn rows() -> [Row; 51]
     ensures { map call_of_row result ≡ calls }
 {
@@ -120,7 +119,6 @@ fn rows() -> [Row; 51]
 }
 
 /// The names of WASI preview 1 that answer nosys.
-#[tactic(auto, unfolding(crate::specs::Calls::nosys_names))]
 fn nosys_names() -> [&'static [u8]; 17]
     ensures { map (λ name. name.now) result ≡ nosys_names }
 {

@@ -1,11 +1,18 @@
 // Whether the imports of a module link, and the calls that they are.
-ghost use Rattle.std.specs.Prelude.{◌≡◌, filter_map, is_some, IfOk, IfSome};
+ghost use Rattle.std.specs.Prelude.{◌≡◌, filter_map, is_some, option_copied, slice_get, IfOk, IfSome};
 ghost use Rattle.std.specs.List.{list_all};
 ghost use Rattle.instance.specs.Links.{import_call, import_links, is_built, is_host_memory};
 
 use crate::calls::Calls;
 use std::alloc::{AllocError, Global};
-use wasm_ast::{Import, ImportKind, Module};
+use wasm_ast::{FuncType, Import, ImportKind, Module};
+
+/// The type of that index.
+fn type_at(module: &Module, of: u32) -> Option<&FuncType>
+    ensures { option_copied result ≡ slice_get «module».now.types of }
+{
+    module.types.as_slice().get(of as usize)
+}
 
 /// The call that an import is, where it is a function that is one.
 fn import_call(calls: &Calls, module: &Module, import: &Import) -> Option<u16>
@@ -14,7 +21,7 @@ fn import_call(calls: &Calls, module: &Module, import: &Import) -> Option<u16>
     let ImportKind::Func(of) = import.kind else {
         return None;
     };
-    match module.types.as_slice().get(of as usize) {
+    match type_at(module, of) {
         Some(of) => calls.number(import.module.as_slice(), import.name.as_slice(), of),
         None => None,
     }

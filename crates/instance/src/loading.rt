@@ -1,8 +1,10 @@
 // Programs from the bytes of modules.
-ghost use Rattle.std.specs.Prelude.{◌≡◌, None};
+ghost use Rattle.std.specs.Prelude.{◌≡◌, None, Result, Err};
 ghost use Rattle.wasm_decode.specs.Bounds.{first_passed};
 ghost use Rattle.instance.specs.Links.{linked};
 ghost use Rattle.instance.specs.Loads.{IsUnlessMemory, Loads};
+ghost use Rattle.instance.specs.Program.{Program as LinkedProgram};
+ghost use Rattle.instance.specs.declared.fault.LoadFault.{LoadFault as Fault};
 
 use crate::exports::{ExportKind, by_name, exported_function};
 use crate::fault::LoadFault;
@@ -13,6 +15,7 @@ use crate::waits::any_waits;
 use std::alloc::Global;
 use wasm_ast::Module;
 use wasm_decode::{DecodeFault, decode};
+use wasm_reading::bytes_spell_one_module;
 use wasm_validate::{Valid, ValidateFault, validate};
 
 /// The program that a typed module is which passes no limit, or the first fault of linking.
@@ -61,6 +64,19 @@ fn validated(alloc: Global, module: Module) -> Result<Program, LoadFault>
     }
 }
 
+/// What loading the bytes answers.
+fn loaded(alloc: Global, bytes: &[u8]) -> Result<Program, LoadFault>
+    ensures { Loads bytes.now result }
+{
+    match decode(alloc, bytes) {
+        Ok(module) => validated(alloc, module),
+        Err(DecodeFault::Malformed) => Err(LoadFault::Malformed),
+        Err(DecodeFault::Float) => Err(LoadFault::Float),
+        Err(DecodeFault::Limit(bound)) => Err(LoadFault::Limit(bound)),
+        Err(DecodeFault::Memory) => Err(LoadFault::Memory),
+    }
+}
+
 /// Loads a program from all bytes of a module in the binary format. The faults are tested in this order:
 ///
 /// - `Limit(Length)` exactly where there are more than 4,194,304 bytes;
@@ -75,13 +91,11 @@ fn validated(alloc: Global, module: Module) -> Result<Program, LoadFault>
 ///
 /// `Memory` is want of memory, and may come in the place of each answer but `Limit(Length)`.
 pub fn load(alloc: Global, bytes: &[u8]) -> Result<Program, LoadFault>
-    ensures { Loads bytes.now result }
+    // The answer comes only where it is right.
+    ensures answer { Loads bytes.now result }
+    // Where an answer is right, it comes.
+    ensures comes { (answer : Result LinkedProgram Fault) → Loads bytes.now answer → (answer ≡ Err LoadFault.Memory → ⊥) → IsUnlessMemory result answer }
 {
-    match decode(alloc, bytes) {
-        Ok(module) => validated(alloc, module),
-        Err(DecodeFault::Malformed) => Err(LoadFault::Malformed),
-        Err(DecodeFault::Float) => Err(LoadFault::Float),
-        Err(DecodeFault::Limit(bound)) => Err(LoadFault::Limit(bound)),
-        Err(DecodeFault::Memory) => Err(LoadFault::Memory),
-    }
+    bytes_spell_one_module();
+    loaded(alloc, bytes)
 }

@@ -1,5 +1,5 @@
 // Programs: modules whose imports are linked.
-ghost use Rattle.std.specs.Prelude.{◌≡◌, ◌<◌, length, IfOk, IfSome, IsSome, IsTrue};
+ghost use Rattle.std.specs.Prelude.{◌≡◌, ◌<◌, length, slice_get, IfOk, IfSome, IsSome, true};
 ghost use Rattle.wasm_ast.specs.TypingModule.{functions_of};
 ghost use Rattle.guest_state.specs.Fits.{Fits};
 ghost use Rattle.guest_state.specs.Snapshot.{thread_of};
@@ -42,6 +42,13 @@ impl Model for Program {
     ghost invariant = { λ p. IsProgram p.valid p.calls.items p.main p.memory × HasExports p.valid.exports p.exports };
 }
 
+/// The number at a place, if there is one.
+fn number_at(numbers: &[u16], place: u32) -> Option<u16>
+    ensures { result ≡ slice_get numbers.now place }
+{
+    numbers.get(place as usize).copied()
+}
+
 impl Program {
     /// Its module.
     pub fn valid(&self) -> &Valid
@@ -50,11 +57,14 @@ impl Program {
         &self.valid
     }
 
-    /// The number of the call that the imported function of that index is. Each imported function has one.
+    /// The number of the call that the imported function of that index is. Each imported function has one, and it is one
+    /// that the host answers.
     pub fn call_of(&self, import: u32) -> Option<u16>
-        ensures { result ≡ call_of self.now import }
+        ensures value { result ≡ call_of self.now import }
+        ensures known { import < length (functions_of self.now.module.imports) → IsSome result }
+        ensures built { IfSome result (λ call. is_built call ≡ true) }
     {
-        self.calls.as_slice().get(import as usize).copied()
+        number_at(self.calls.as_slice(), import)
     }
 
     /// The index of the function of the module's own that is exported under a name and has the type of such functions.

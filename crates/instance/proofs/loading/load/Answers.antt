@@ -1,5 +1,5 @@
-use Rattle.instance.proofs.LoadLemmas.{of_linked}
+use Rattle.instance.proofs.AgreeLemmas.{one_answer}
 use Rattle.instance.proofs.loading.load.Goals as goal
 
-pub returns-in-Ok : goal.returns-in-Ok
-returns-in-Ok c = of_linked c.args.bytes.now c.in-Ok.module c.validated.result c.in-Ok.ensures.module c.validated.ensures
+pub returns-clause-comes : goal.returns-clause-comes
+returns-clause-comes c = λ answer right other. one_answer c.args.bytes.now (c.bytes_spell_one_module.ensures c.args.bytes.now) c.loaded.result answer c.loaded.ensures right other
