@@ -4,8 +4,7 @@ use Rattle.std.proofs.lemmas.List.{append-nil}
 use Rattle.std.specs.List.{All}
 use Rattle.std.proofs.lemmas.List.Elements.{recursion_from_All}
 use Rattle.wasm_ast.specs.declared.module.Module.{Module}
-use Rattle.wasm_ast.specs.Shortest.{shortest_unsigned}
-use Rattle.wasm_ast.specs.Shortest.{canon_vec}
+use Rattle.wasm_ast.specs.Shortest.{shortest_unsigned, canon_vec}
 use Rattle.wasm_ast.specs.Canon.{canon_func_type, canon_import, canon_table, canon_memory, canon_global, canon_export, canon_element, canon_code, canon_segment, canon_list, canon_start, canon}
 use Rattle.wasm_ast.specs.Spelling.{SpellsU32, SpellsVec}
 use Rattle.wasm_ast.specs.SpelledTypes.{SpellsFuncType, SpellsTable, SpellsMemory}
