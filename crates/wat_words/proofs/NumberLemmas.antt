@@ -1,8 +1,7 @@
 -- Numbers only grow with more digits.
-use Rattle.std.proofs.Common.{◌≡◌, ℕ, ◌+◌, ◌*◌, ◌≤◌, ◌<◌, Bool, true, false, not, ◌&&◌, eqb, ltb, cond, List, [], ◌∷◌, Option, Some, None, refl, sym, subst, arith}
+use Rattle.std.proofs.Common.{◌≡◌, ℕ, ◌+◌, ◌*◌, ◌≤◌, ◌<◌, Bool, true, false, not, ◌&&◌, eqb, ltb, cond, List, [], ◌∷◌, Some, None, refl, subst, arith}
 use Rattle.std.proofs.Math.Nat.{mul-le-mul_right}
 use Rattle.std.specs.Char.{digit_value}
-use Rattle.std.proofs.lemmas.Grind.{common_steps}
 use Rattle.std.proofs.lemmas.Bool.Decides.{nat_tests}
 use Rattle.wat_words.specs.Numbers.{below, digits_behind}
 
@@ -21,10 +20,10 @@ too_great limit base n true [] b h = refl
 too_great limit base n false [] b h = above_none limit n h
 too_great limit base n m (x ∷ xs) b h =
     elim (ltb (digit_value x) base) as (λ t. below limit (cond t (digits_behind base (base * n + digit_value x) false xs) (cond (eqb x 95 && not m) (digits_behind base n true xs) None)) ≡ None) [
-      true ↦ too_great limit base (base * n + digit_value x) false xs b (let k : n ≤ base * n + digit_value x = bigger base n (digit_value x) b in omega arith)
-    | false ↦ elim (eqb x 95 && not m) as (λ t. below limit (cond t (digits_behind base n true xs) None) ≡ None) [
-        true ↦ too_great limit base n true xs b h
-      | false ↦ refl
+      | true ↦ too_great limit base (base * n + digit_value x) false xs b (let k : n ≤ base * n + digit_value x = bigger base n (digit_value x) b in omega arith)
+      | false ↦ elim (eqb x 95 && not m) as (λ t. below limit (cond t (digits_behind base n true xs) None) ≡ None) [
+        | true ↦ too_great limit base n true xs b h
+        | false ↦ refl
       ]
     ]
 

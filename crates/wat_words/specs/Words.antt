@@ -1,5 +1,5 @@
 -- Words of a text, which are runs of identifier characters: WebAssembly Core 1.0, section 6.3.
-use Rattle.std.specs.Prelude.{ℕ, Bool, true, false, not, ◌&&◌, ◌==◌, nat_le, nat_lt, List, [], ◌∷◌, codes, length, slice_index}
+use Rattle.std.specs.Prelude.{ℕ, Bool, not, ◌&&◌, ◌==◌, nat_le, nat_lt, List, codes, length, slice_index}
 use Rattle.std.specs.List.{list_any}
 
 -- an identifier character: a visible character of ASCII but `"`, which is 34, and these (6.3.5)

@@ -4,5 +4,5 @@
 mod numbers;
 mod words;
 
-pub use numbers::{digits, i32_of, i64_of, u32_of};
+pub use numbers::{digit_value, digits, i32_of, i64_of, u32_of};
 pub use words::{is_identifier, is_word_byte};

@@ -5,7 +5,7 @@ ghost use Rattle.std.specs.Char.{digit_value};
 ghost use Rattle.wat_words.specs.Numbers.{below, digits, u32_of, i32_of, i64_of, unsigned};
 
 /// The value of a digit or letter: 0 to 9, and from 10 on for the letters in either case. 36 for other bytes.
-fn digit_value(byte: u8) -> u64
+pub fn digit_value(byte: u8) -> u64
     ensures { result ≡ digit_value byte }
 {
     match byte {

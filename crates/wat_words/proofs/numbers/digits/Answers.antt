@@ -1,8 +1,8 @@
-use Rattle.std.proofs.Common.{◌≡◌, ◌+◌, ◌*◌, ◌^◌, ◌<◌, ◌≤◌, ◌∙◌, ap, ℕ, List, [], Some, None, suc, drop, get_or, sym, refl, arith}
+use Rattle.std.proofs.Common.{◌≡◌, ◌^◌, ◌∙◌, ap, ℕ, List, [], suc, drop, get_or, sym, arith}
 use Rattle.std.proofs.Math.Seq.{drop-cons}
 use Rattle.std.proofs.Math.ListN.{drop_of_length-le}
 use Rattle.std.proofs.lemmas.Grind.{common_steps}
-use Rattle.wat_words.specs.Numbers.{below, digits, digits_behind}
+use Rattle.wat_words.specs.Numbers.{below, digits_behind}
 use Rattle.wat_words.proofs.NumberLemmas.{overflowed}
 use Rattle.wat_words.proofs.numbers.digits.Goals as goal
 
