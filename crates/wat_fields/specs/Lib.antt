@@ -1,0 +1,4 @@
+pub mod Items
+pub mod Remaining
+pub mod Closings
+pub mod Places
