@@ -1,5 +1,6 @@
 -- The fields into which parentheses part the tokens of a text: WebAssembly Core 1.0, section 6.1.
-use Rattle.std.specs.Prelude.{◌≡◌, ℕ, List, [], ◌∷◌, ◌++◌, Option, Some, None}
+use Rattle.std.specs.Prelude.{ℕ, List, [], ◌∷◌, ◌++◌, Option, Some, None}
+use Rattle.std.specs.Option.{option_and_then}
 use Rattle.wat_tokens.specs.Tokens as token
 use Rattle.wat_tokens.specs.Tokens.{Token}
 
@@ -24,40 +25,28 @@ pub record Parts : Type 0 where
   pub items : Items
   pub outer : List Items
 
-abbrev pub with_items : (Items → Items) → Option Parts → Option Parts
-with_items f None = None
-with_items f (Some parts) = Some (record { items = f parts.items; outer = parts.outer })
+-- behind a parenthesis that opens: none where its group doesn't close
+abbrev pub opened : (line : ℕ) (inside : Items) → List Items → Option Parts
+opened line inside [] = None
+opened line inside (rest ∷ outer) = Some (record { items = Group line inside rest; outer = outer })
 
--- behind a parenthesis that closes
-abbrev pub closed : Option Parts → Option Parts
-closed None = None
-closed (Some parts) = Some (record { items = Empty; outer = parts.items ∷ parts.outer })
-
--- behind a parenthesis that opens: none where the group doesn't close
-abbrev pub opened_parts : (line : ℕ) → Items → List Items → Option Parts
-opened_parts line inside [] = None
-opened_parts line inside (rest ∷ outer) = Some (record { items = Group line inside rest; outer = outer })
-
-abbrev pub opened : (line : ℕ) → Option Parts → Option Parts
-opened line None = None
-opened line (Some parts) = opened_parts line parts.items parts.outer
+-- a token in front of others
+abbrev pub in_front : Token → Parts → Option Parts
+in_front (token.Open line) parts = opened line parts.items parts.outer
+in_front token.Close parts = Some (record { items = Empty; outer = parts.items ∷ parts.outer })
+in_front (token.Word bytes) parts = Some (record { items = Word bytes parts.items; outer = parts.outer })
+in_front (token.Text bytes) parts = Some (record { items = Text bytes parts.items; outer = parts.outer })
 
 abbrev pub parts_of : List Token → Option Parts
 parts_of [] = Some (record { items = Empty; outer = [] })
-parts_of (token.Open line ∷ tokens) = opened line (parts_of tokens)
-parts_of (token.Close ∷ tokens) = closed (parts_of tokens)
-parts_of (token.Word bytes ∷ tokens) = with_items (Word bytes) (parts_of tokens)
-parts_of (token.Text bytes ∷ tokens) = with_items (Text bytes) (parts_of tokens)
+parts_of (token ∷ tokens) = option_and_then (in_front token) (parts_of tokens)
 
+-- all is one list of items: no parenthesis closes a group that doesn't open
 abbrev pub whole : Items → List Items → Option Items
 whole items [] = Some items
 whole items (more ∷ outer) = None
 
-abbrev pub whole_parts : Option Parts → Option Items
-whole_parts None = None
-whole_parts (Some parts) = whole parts.items parts.outer
-
 -- The items of tokens whose parentheses are balanced, none of others. They are the items that are written with these tokens:
 -- `items_of tokens ≡ Some items` exactly where `flat items ≡ tokens`.
 unfoldable pub items_of : List Token → Option Items
-items_of tokens = whole_parts (parts_of tokens)
+items_of tokens = option_and_then (λ parts. whole parts.items parts.outer) (parts_of tokens)

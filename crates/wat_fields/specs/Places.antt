@@ -1,13 +1,13 @@
 -- Places among the tokens of fields, and what stands there.
-use Rattle.std.specs.Prelude.{◌≡◌, ℕ, ◌+◌, ◌<◌, ◌≤◌, List, [], ◌∷◌, ◌++◌, length, drop, Option, Some, None, Result, Ok, Err}
+use Rattle.std.specs.Prelude.{◌≡◌, ℕ, ◌<◌, ◌≤◌, List, Option, Some, None, Result, Ok, Err}
 use Rattle.wat_tokens.specs.Tokens.{Token}
 use Rattle.wat_tokens.specs.Quoted.{quoted_bytes}
 use Rattle.wat_fields.specs.declared.field_list.Item.{Item}
 use Rattle.wat_fields.specs.declared.field_list.Item.TheVariants as item
 use Rattle.wat_fields.specs.declared.field_list.Met.{Met}
-use Rattle.wat_fields.specs.declared.field_list.FieldsFault.{FieldsFault}
-use Rattle.wat_fields.specs.declared.field_list.FieldsFault.TheVariants.{Unbalanced, Memory}
+use Rattle.wat_fields.specs.declared.fault.FieldsFault.{FieldsFault}
 use Rattle.wat_fields.specs.Items.{Items, Empty, Word, Text, Group, items_of}
+use Rattle.wat_fields.specs.Parting.{IsRefused}
 use Rattle.wat_fields.specs.Remaining.{remaining}
 
 -- an item in front of others; what is inside a group is what is left at its start
@@ -32,8 +32,7 @@ abbrev pub LeadsOn : (place count : ℕ) → Option Met → Type 0
 LeadsOn place count None = Unit {0}
 LeadsOn place count (Some met) = (place < met.behind.index) × (met.behind.index ≤ count) × IsInside place met.behind.index met.item
 
--- the answer is the items that the tokens are, unless memory ran out
+-- the answer is the tokens and they are items, unless memory ran out
 abbrev pub PartsInto : List Token → Result (List Token) FieldsFault → Type 0
 PartsInto tokens (Ok fields) = (fields ≡ tokens) × (items_of tokens ≡ Some (remaining tokens 0))
-PartsInto tokens (Err Unbalanced) = items_of tokens ≡ None
-PartsInto tokens (Err Memory) = Unit {0}
+PartsInto tokens (Err fault) = IsRefused tokens fault

@@ -21,7 +21,8 @@ Lies text stored.Close = Unit {0}
 Lies text (stored.Word start count) = start + count ≤ length text
 Lies text (stored.Text start) = (start ≤ length text) × (is_some (string (drop start text)) ≡ true)
 
--- all tokens lie in the text
+-- all tokens lie in the text, which has no more tokens than bytes
 pub record LieIn (text : List ℕ) (items : List Stored) : Type 0 where
   pub short : length text < 2 ^ 31
+  pub few : length items < 2 ^ 31
   pub lie : AllByRecursion (Lies text) items

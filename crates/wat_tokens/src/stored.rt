@@ -41,6 +41,7 @@ pub(crate) fn store(items: &mut Vec<Stored>, start: usize, piece: Piece) -> Resu
     requires { start + piece.length < 2 ^ 31 }
     ensures value { OnOk result ((text : List ℕ) → map (token_at text) items.new.items ≡ map (token_at text) items.old.items ++ option_to_list (token_of (drop start text) piece.length piece.kind)) }
     ensures lie { OnOk result ((text : List ℕ) → AllByRecursion (Lies text) items.old.items → IsClosed (drop start text) piece.kind → 1 ≤ piece.length → start + piece.length ≤ length text → AllByRecursion (Lies text) items.new.items) }
+    ensures few { length items.new.items ≤ length items.old.items + 1 }
 {
     match stored_at(start, piece) {
         Some(token) => {

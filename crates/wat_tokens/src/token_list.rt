@@ -1,5 +1,5 @@
 // The tokens of a text: WebAssembly Core 1.0, sections 6.2 and 6.3.
-ghost use Rattle.std.specs.Prelude.{◌≡◌, ◌≤◌, length};
+ghost use Rattle.std.specs.Prelude.{◌≡◌, ◌≤◌, ◌<◌, ◌^◌, length};
 ghost use Rattle.std.specs.List.{slice_get};
 ghost use Rattle.std.specs.Option.{option_map};
 
@@ -81,7 +81,8 @@ impl<'a> Tokens<'a> {
 
     /// How many tokens there are.
     pub fn len(&self) -> usize
-        ensures { result ≡ length self.now }
+        ensures value { result ≡ length self.now }
+        ensures bound { result < 2 ^ 31 }
     {
         self.items.len()
     }

@@ -22,6 +22,7 @@ loop-start-preserved c =
       read = read_step c.args.text.now c.loop-start.start c.loop-start.line c.lines_at.result piece (map (token_at c.args.text.now) c.loop-start.items.items) (map (token_at c.args.text.now) c.store.new.items.items) c.loop-start-test.true (sym c.in-Some.ensures.value) c.in-Some.ensures.bound.0 (c.in-Ok.ensures.value c.args.text.now) c.lines_at.ensures.value
           ∙ c.loop-start.invariant.read;
       lie = c.in-Ok.ensures.lie c.args.text.now c.loop-start.invariant.lie c.in-Some.ensures.bound.2 c.in-Some.ensures.bound.0 within;
+      few = omega (arith, c.in-Some.ensures.bound.0, c.store.ensures.few);
       within = within;
       lines = omega arith;
     }

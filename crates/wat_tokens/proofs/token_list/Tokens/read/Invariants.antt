@@ -10,6 +10,7 @@ abbrev pub invariant-loop-start : goal.invariant-loop-start
 invariant-loop-start l = record {
   read : behind_tokens (map (token_at l.text) l.items.items) (tokens_from 0 l.line (drop l.start l.text)) ≡ tokens_from 0 1 l.text;
   lie : AllByRecursion (Lies l.text) l.items.items;
+  few : length l.items.items ≤ l.start;
   within : l.start ≤ length l.text;
   lines : l.line ≤ l.start + 1;
 }
