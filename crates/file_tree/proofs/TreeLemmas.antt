@@ -234,7 +234,7 @@ put_same nodes k old v is parent same dirs =
       unused = set.unused;
     }
 
-same_itself : (nodes : NodeMap) → SameLinks nodes nodes
+pub same_itself : (nodes : NodeMap) → SameLinks nodes nodes
 same_itself nodes = record { parent = λ q. refl; leads = λ d n. refl; top = refl; len = omega arith; unused = λ q none. none }
 
 pub changed_same : (nodes : NodeMap) (k : ℕ) (change : Node → Node) → ((old : Node) → get nodes k ≡ Some old → (change old).parent ≡ old.parent) → ((old : Node) (n : List ℕ) → target_in (change old).content n ≡ target_in old.content n)

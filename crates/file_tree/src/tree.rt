@@ -265,7 +265,8 @@ impl Tree {
         }
     }
 
-    /// The absolute path of the node. `Noent` comes where it was removed. `Memory` is want of memory.
+    /// The absolute path of the node, which may have more than 1,024 bytes where directories were moved. `Noent` comes where it
+    /// was removed. `Memory` is want of memory.
     pub fn path_of(&self, alloc: Global, node: u32) -> Result<Bytes, Refusal>
         ensures { Tells (path_of self.now node) result }
     {

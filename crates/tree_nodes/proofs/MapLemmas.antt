@@ -1,14 +1,17 @@
 -- Finite maps, and the entries of the maps that keep them.
-use Rattle.std.proofs.Common.{◌≡◌, ◌+◌, ◌-◌, ◌<◌, cond, false, List, [], ◌∷◌, Some, None, is_some, Ordering, Less, Equal, Greater, is_eq, refl, sym, ap, ◌∙◌, inl, inr, length, arith, eq-zero-or-pos}
-use Rattle.std.specs.BTreeMap.{is_at}
+use Rattle.std.proofs.Common.{◌≡◌, ◌+◌, ◌-◌, ◌<◌, Bool, true, ◌&&◌, T, is_lt, cond, false, List, [], ◌∷◌, Some, None, is_some, Ordering, Less, Equal, Greater, is_eq, refl, sym, ap, ◌∙◌, inl, inr, length, arith, eq-zero-or-pos}
+use Rattle.std.specs.BTreeMap.{is_at, insert_entry}
+use Rattle.std.specs.List.{AllByRecursion}
+use Rattle.std.specs.Ordering.{match_ordering}
+use Rattle.std.specs.FinMap.Entries.{is_sorted}
 use Rattle.std.specs.Cmp.{IsTotalOrder, eq_by_cmp_equiv, tied_itself}
-use Rattle.std.specs.FinMap.{FinMap, get-empty, len-insert, len-remove, empty_of_len, find, put, get, insert, remove, empty, len, entries, from_entries, get-from_entries, get-insert, get-remove, entries-insert, len-entries, len-empty, same_map, IsAntisymmetric}
+use Rattle.std.specs.FinMap.{FinMap, entries_sorted, get-empty, len-insert, len-remove, empty_of_len, find, put, get, insert, remove, empty, len, entries, from_entries, get-from_entries, get-insert, get-remove, entries-insert, len-entries, len-empty, same_map, IsAntisymmetric}
 use Rattle.std.specs.FinMap.Entries.{by_order}
 use Rattle.std.specs.List.Sorted.{IsStrictlySortedBy}
 use Rattle.std.specs.Map.{lookup, keys_of}
 
 module _ {K X : Type 0} {R : K → K → Ordering} (total : IsTotalOrder R) where
-  find_entry : (es : List (K × X)) (q : K) → find R q es ≡ lookup (is_at (R q)) es
+  pub find_entry : (es : List (K × X)) (q : K) → find R q es ≡ lookup (is_at (R q)) es
   find_entry [] q = refl
   find_entry (e ∷ es) q = ap (cond (is_at (R q) e.0) (Some e.1)) (find_entry es q)
 
@@ -88,3 +91,46 @@ module _ {K X : Type 0} {R : K → K → Ordering} (total : IsTotalOrder R) (exa
   len_taken m k old there =
       let less : len (remove m k) ≡ len m - 1 = len-remove total m k ∙ ap (λ o. cond (is_some o) (len m - 1) (len m)) there in
       omega (arith, len_some m k old there)
+
+T_first : (a b : Bool) → T (a && b) → T a
+T_first true b h = tt
+T_first false b h = h
+
+T_second : (a b : Bool) → T (a && b) → T b
+T_second true b h = h
+T_second false b h = absurd h
+
+less : (o : Ordering) → T (is_lt o) → o ≡ Less
+less Less h = refl
+less Equal h = absurd h
+less Greater h = absurd h
+
+-- the entries of a map are in the order of its keys
+module _ {K X : Type 0} (R : K → K → Ordering) where
+  abbrev all_less : K → List (K × X) → Bool
+  all_less x [] = true
+  all_less x (e ∷ es) = is_lt (R x e.0) && all_less x es
+
+  all_above : (x : K) (es : List (K × X)) → T (all_less x es) → AllByRecursion (λ k. R x k ≡ Less) (keys_of es)
+  all_above x [] h = tt
+  all_above x (e ∷ es) h = (less (R x e.0) (T_first (is_lt (R x e.0)) (all_less x es) h), all_above x es (T_second (is_lt (R x e.0)) (all_less x es) h))
+
+  sorted_list : (es : List (K × X)) → T (is_sorted R es) → IsStrictlySortedBy R (keys_of es)
+  unfolding IsStrictlySortedBy
+  sorted_list [] h = tt
+  sorted_list (e ∷ es) h = (all_above e.0 es (T_first (all_less e.0 es) (is_sorted R es) h), sorted_list es (T_second (all_less e.0 es) (is_sorted R es) h))
+
+  pub entries_rise : (m : FinMap R X) → IsStrictlySortedBy R (keys_of (entries m))
+  entries_rise m = sorted_list (entries m) (entries_sorted m)
+
+  put_entry : (k : K) (v : X) (es : List (K × X)) → put R k v es ≡ insert_entry R es k v
+  put_entry k v [] = refl
+  put_entry k v (e ∷ es) =
+      elim (R k e.0) as (λ r. by_order r ((k, v) ∷ e ∷ es) ((e.0, v) ∷ es) (e ∷ put R k v es) ≡ match_ordering r ((k, v) ∷ e ∷ es) ((e.0, v) ∷ es) (e ∷ insert_entry R es k v)) [
+        | Less ↦ refl
+        | Equal ↦ refl
+        | Greater ↦ ap (λ l. e ∷ l) (put_entry k v es)
+      ]
+
+  pub entries_put : IsTotalOrder R → (m : FinMap R X) (k : K) (v : X) → entries (insert m k v) ≡ insert_entry R (entries m) k v
+  entries_put total m k v = entries-insert total m k v ∙ put_entry k v (entries m)
