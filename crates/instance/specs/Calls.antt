@@ -8,6 +8,37 @@ use Rattle.wasm_ast.specs.declared.types.ValType.TheVariants.{I32, I64}
 use Rattle.wasm_ast.specs.declared.types.FuncType.{FuncType}
 use Rattle.wasm_steps.specs.Table.{same_types}
 
+-- What ends a slice and is no row of the table has a number too. There is no such thread; the slice was spent; no fuel is left;
+-- the next step traps; the last frame has returned.
+abbrev pub no_call : ℕ
+no_call = 0
+
+abbrev pub spent : ℕ
+spent = 1
+
+abbrev pub out_of_fuel : ℕ
+out_of_fuel = 2
+
+abbrev pub trapped : ℕ
+trapped = 3
+
+abbrev pub last_return : ℕ
+last_return = 4
+
+-- the waits and the notify of the threads proposal, which are instructions
+abbrev pub wait32 : ℕ
+wait32 = 5
+
+abbrev pub wait64 : ℕ
+wait64 = 6
+
+abbrev pub notify : ℕ
+notify = 7
+
+-- each of the names that answer nosys
+abbrev pub nosys_call : ℕ
+nosys_call = 8
+
 -- A call: the module and the name by which it is imported, its number, the types of its parameters, and whether it has a
 -- result, which is an i32.
 pub record Call : Type 0 where
@@ -120,9 +151,6 @@ nosys_names =
     ∷ codes "sock_send"
     ∷ codes "sock_shutdown"
     ∷ []
-
-abbrev pub nosys_call : ℕ
-nosys_call = 8
 
 -- the row of a module and a name
 abbrev pub call_named : List ℕ → List ℕ → Option Call

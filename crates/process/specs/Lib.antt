@@ -1,0 +1,4 @@
+pub mod Stops
+pub mod Asked
+pub mod Replied
+pub mod Apply
