@@ -1,5 +1,5 @@
 -- The kernel: what the host keeps of all processes and their threads.
-use Rattle.std.specs.Prelude.{◌≡◌, ℕ, List, Some}
+use Rattle.std.specs.Prelude.{◌≡◌, ℕ, Bool, true, false, List, Option, Some, None}
 use Rattle.std.specs.Ordering.{nat_cmp}
 use Rattle.std.specs.FinMap.{FinMap, get}
 use Rattle.fd_table.specs.Table.{Table}
@@ -36,6 +36,18 @@ pub record Kernel : Type 0 where
   pub time : ℕ
   -- how the run ended
   pub ending : Ending
+
+-- the process has not ended
+abbrev pub is_live_state : ProcessState → Bool
+is_live_state Live = true
+is_live_state (Over end) = false
+
+abbrev pub lives_as : Option Unjoined → Bool
+lives_as None = false
+lives_as (Some u) = is_live_state u.state
+
+abbrev pub lives : Kernel → ℕ → Bool
+lives kernel pid = lives_as (get kernel.unjoined pid)
 
 -- the thread is handed out
 abbrev pub IsHanded : Kernel → ℕ → ℕ → Type 0

@@ -8,4 +8,5 @@ pub mod Ends
 pub mod Descriptors
 pub mod Answers
 pub mod Settling
+pub mod Readiness
 pub mod Beginning

@@ -1,0 +1,3 @@
+pub mod Splits
+pub mod Determined
+pub mod Made

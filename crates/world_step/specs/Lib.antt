@@ -3,7 +3,7 @@ pub mod Leads
 pub mod Weight
 pub mod Boot
 pub mod Run
-pub mod Lineage
 pub mod Stops
 pub mod Written
 pub mod Pipes
+pub mod Laws

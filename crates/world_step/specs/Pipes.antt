@@ -1,5 +1,5 @@
 -- What a history moves through a pipe.
-use Rattle.std.specs.Prelude.{ℕ, ◌==◌, if◌then◌else◌, List, [], ◌∷◌, ◌++◌}
+use Rattle.std.specs.Prelude.{◌≡◌, ℕ, ◌==◌, if◌then◌else◌, List, [], ◌∷◌, ◌++◌}
 use Rattle.wasix_abi.specs.Requests.{fd_write}
 use Rattle.wx_types.specs.declared.entries.Entry.{Entry}
 use Rattle.wx_types.specs.declared.entries.Outcome.{Outcome}
@@ -31,3 +31,7 @@ accepted entries pipe = moved fd_write entries pipe
 
 abbrev pub taken : List Entry → ℕ → List ℕ
 taken entries pipe = moved fd_read entries pipe
+
+-- each pipe's reads, joined, are a prefix of what its writes were accepted for
+abbrev pub ReadsArePrefixes : List Entry → Type 0
+ReadsArePrefixes entries = (pipe : ℕ) → (rest : List ℕ) × (accepted entries pipe ≡ taken entries pipe ++ rest)

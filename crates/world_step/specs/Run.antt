@@ -3,7 +3,8 @@ use Rattle.std.specs.Prelude.{◌≡◌, ℕ, ◌+◌, ◌<◌, ◌≤◌, List,
 use Rattle.instance.specs.Program.{Program}
 use Rattle.kernel_core.specs.Ending.{Ending}
 use Rattle.world_step.specs.Boot.{Boot, BootLoads, boot_world}
-use Rattle.world_step.specs.Leads.{Leads, Replies, Told, told_by}
+use Rattle.process.specs.Lineage.{Told}
+use Rattle.world_step.specs.Leads.{Leads, Replies, told_by}
 use Rattle.world_step.specs.Weight.{weight, weight_limit}
 use Rattle.world_step.specs.World.{World}
 use Rattle.wx_types.specs.Entry.{entry_weight}

@@ -7,9 +7,17 @@ use Rattle.kernel_ask.specs.Answer.{Answer}
 use Rattle.process.specs.Apply.{apply, made}
 use Rattle.process.specs.Asked.{with_steps}
 use Rattle.wasm_steps.specs.Step.{after}
-use Rattle.world_step.specs.Leads.{Told}
+use Rattle.instance.specs.Program.{Program}
+use Rattle.wx_types.specs.declared.entries.Entry.{Entry}
+use Rattle.wx_types.specs.declared.requests.Request.{Request}
 use Rattle.wx_types.specs.declared.entries.Outcome.{Outcome}
 use Rattle.wx_types.specs.declared.entries.Outcome.TheVariants.{Reply, Wait, Image, Fork, Spawn, Ended, Gone}
+
+-- a turn as it is told: its entry, its request, and the program of a new image or a spawned process
+pub record Told : Type 0 where
+  pub entry : Entry
+  pub request : Request
+  pub program : Option Program
 
 -- the outcome made the process of that number
 abbrev pub makes : Outcome → ℕ → Bool
@@ -21,10 +29,10 @@ makes (Spawn child) pid = child == pid
 makes (Ended process) pid = false
 makes Gone pid = false
 
--- whose turn it is before these turns, on the line that leads to a process: its own, or that of the one from which it descends
-abbrev pub forebear : List Told → ℕ → ℕ
-forebear [] pid = pid
-forebear (turn ∷ turns) pid = if makes turn.entry.outcome (forebear turns pid) then turn.entry.pid else forebear turns pid
+-- the process that stands before these turns where a process stands after them: the same one, or one from which it descends
+abbrev pub ancestor : List Told → ℕ → ℕ
+ancestor [] pid = pid
+ancestor (turn ∷ turns) pid = if makes turn.entry.outcome (ancestor turns pid) then turn.entry.pid else ancestor turns pid
 
 -- the turn is on the line where after it the line goes on with that process: the process's own, or the one that made it
 abbrev pub is_on_line : Told → ℕ → Bool
@@ -33,7 +41,7 @@ is_on_line turn pid = turn.entry.pid == pid || makes turn.entry.outcome pid
 -- The turns of a process, and before them those of its parent up to and with the one that made it.
 abbrev pub lineage : List Told → ℕ → List Told
 lineage [] pid = []
-lineage (turn ∷ turns) pid = if is_on_line turn (forebear turns pid) then turn ∷ lineage turns pid else lineage turns pid
+lineage (turn ∷ turns) pid = if is_on_line turn (ancestor turns pid) then turn ∷ lineage turns pid else lineage turns pid
 
 abbrev pub answer_of : Told → Answer
 answer_of turn = record { outcome = turn.entry.outcome; signal = turn.entry.signal; program = turn.program }
@@ -64,4 +72,4 @@ after_told process turn pid = option_and_then (λ stopped. after_answer stopped 
 abbrev pub state_of : Process → List Told → ℕ → Option Process
 state_of process [] pid = Some process
 state_of process (turn ∷ turns) pid =
-    option_and_then (λ next. state_of next turns pid) (after_told process turn (forebear turns pid))
+    option_and_then (λ next. state_of next turns pid) (after_told process turn (ancestor turns pid))
