@@ -6,3 +6,4 @@ pub mod Doomed
 pub mod Lines
 pub mod Crossing
 pub mod Lineages
+mod Examples
