@@ -1,0 +1,4 @@
+pub mod Calls
+pub mod Program
+pub mod Links
+pub mod Loads

@@ -1,0 +1,9 @@
+pub mod Going
+pub mod Determined
+pub mod Ready
+pub mod Answering
+pub mod Doomed
+pub mod Lines
+pub mod Crossing
+pub mod Lineages
+mod Examples
