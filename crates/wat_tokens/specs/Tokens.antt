@@ -27,16 +27,16 @@ is_space byte = byte == 32 || byte == 9 || byte == 10 || byte == 13
 abbrev pub line_length : List ℕ → ℕ
 line_length text = prefix_len (λ byte. not (byte == 10)) text
 
--- How many bytes a text has up to the end of the outermost of so many block comments, which are open. `(;` opens one more and
--- `;)` closes the innermost. `before` is the byte in front of the text, or 0 where that has opened or closed one (6.2.4).
-abbrev pub comment_length : (open_comments : ℕ) → (before : ℕ) → List ℕ → Option ℕ
-comment_length open_comments before [] = if open_comments == 0 then Some 0 else None
-comment_length open_comments before (byte ∷ rest) =
-    if open_comments == 0 then Some 0
-    else option_map suc
-    (if before == 59 && byte == 41 then comment_length (open_comments - 1) 0 rest
-    else (if before == 40 && byte == 59 then comment_length (open_comments + 1) 0 rest
-    else comment_length open_comments byte rest))
+-- How many bytes a text has up to the end of the outermost of so many block comments, which are open in front of it. `;)` closes
+-- the innermost, `(;` opens one inside it, and any other byte is part of it (6.2.4).
+abbrev pub comment_length : (open_comments : ℕ) → List ℕ → Option ℕ
+comment_length zero text = Some 0
+comment_length (suc outer) [] = None
+comment_length (suc outer) (byte ∷ []) = None
+comment_length (suc outer) (byte ∷ next ∷ rest) =
+    if byte == 59 && next == 41 then option_map (λ n. n + 2) (comment_length outer rest)
+    else (if byte == 40 && next == 59 then option_map (λ n. n + 2) (comment_length (suc (suc outer)) rest)
+    else option_map suc (comment_length (suc outer) (next ∷ rest)))
 
 -- a token or a comment of so many bytes at the front of a text, where these are UTF-8
 abbrev pub of_utf8 : List ℕ → Option Token → ℕ → Option Piece
@@ -44,7 +44,7 @@ of_utf8 text token length = if is_utf8 (take length text) then Some (record { le
 
 -- behind `(;` and behind `;;`
 abbrev pub block_comment : List ℕ → Option Piece
-block_comment text = option_and_then (λ n. of_utf8 text None (n + 2)) (comment_length 1 0 (drop 2 text))
+block_comment text = option_and_then (λ n. of_utf8 text None (n + 2)) (comment_length 1 (drop 2 text))
 
 abbrev pub line_comment : List ℕ → Option Piece
 line_comment text = of_utf8 text None (line_length (drop 2 text) + 2)
