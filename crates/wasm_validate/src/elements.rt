@@ -2,7 +2,7 @@
 ghost use Rattle.std.specs.Prelude.{◌≡◌, ◌≤◌, ◌<◌, length, IfOk};
 ghost use Rattle.wasm_ast.specs.Table.{constant_value, global_value, instruction_constant, instruction_offset, last_put, offset_value, put_at};
 ghost use Rattle.wasm_ast.specs.TypingModule.{globals_of};
-ghost use Rattle.wasm_validate.specs.Elements.{AreFirst, IsPutFrom};
+ghost use Rattle.wasm_validate.specs.Elements.{AreFirst, IsPutFrom, from_place};
 
 use super::imported::global_count;
 use std::alloc::{AllocError, Global};
@@ -69,17 +69,24 @@ fn offset_value(module: &Module, imported: usize, offset: &Body) -> u64
     }
 }
 
+/// The function at a place where these functions begin at another.
+fn from_place(first: u64, functions: &[u32], place: u32) -> Option<u32>
+    ensures { result ≡ from_place first functions.now place }
+{
+    if first > place as u64 {
+        return None;
+    }
+    let index = place as u64 - first;
+    functions.get(index as usize).copied()
+}
+
 /// The function that a segment puts at a place, if any.
 fn put_at(module: &Module, imported: usize, element: &Element, place: u32) -> Option<u32>
     requires { imported ≡ length (globals_of «module».now.imports) }
     ensures { result ≡ put_at «module».now element.now place }
 {
-    let offset = offset_value(module, imported, &element.offset);
-    if offset > place as u64 {
-        return None;
-    }
-    let index = place as u64 - offset;
-    element.functions.as_slice().get(index as usize).copied()
+    let first = offset_value(module, imported, &element.offset);
+    from_place(first, element.functions.as_slice(), place)
 }
 
 /// The function that segments put at a place, if any: that of the last one counts.
