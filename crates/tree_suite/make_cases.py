@@ -392,7 +392,7 @@ new()
 do("mkdir 1 a", "mkdir 1 a/b", "hold 3", "rmdir 1 a/b", "stat 3", "lookup 3 .", "lookup 3 ..", "lookup 3 /", "lookup 3 x")
 do("find 3 x", "create 3 x", "mkdir 3 x", "create 3 x/", "create 3 .", "mkdir 3 .", "mkdir 3 ..", "unlink 3 x", "rmdir 3 x")
 do("rmdir 3 .", "rmdir 3 ..", "unlink 3 .", "list 3", "path 3", "create 1 f", "rename 1 f 3 f", "rename 3 x 1 y", "rename 3 x 3 y")
-do("rename 1 f 3 .", "rename 1 f 3 ..", "rename 1 x 3 y", "rename 1 a 3 a", "mkdir 3 x/y", "create 3 ../x", "lookup 3 ../f")
+do("rename 1 f 3 .", "rename 1 f 3 ..", "rename 3 . 1 y", "rename 3 .. 1 y", "rename 3 .. 3 x/y", "rename 1 x 3 y", "rename 1 a 3 a", "mkdir 3 x/y", "create 3 ../x", "lookup 3 ../f")
 do("release 3", "stat 3", "lookup 3 .", "path 3", "list 3", "mkdir 1 c")
 
 title("Unlinking")
