@@ -83,7 +83,7 @@ plain_list : (front : List (List ℕ)) (name : List ℕ) → AllByRecursion IsNa
 plain_list [] name all short = plain_joined name [] all short
 plain_list (x ∷ front) name all short = plain_joined x (front ++ name ∷ []) all short
 
-last_is : (o : Option (List ℕ)) (front : List (List ℕ)) (name : List ℕ) → unwrap_or (last_or o (front ++ name ∷ [])) [] ≡ name
+pub last_is : (o : Option (List ℕ)) (front : List (List ℕ)) (name : List ℕ) → unwrap_or (last_or o (front ++ name ∷ [])) [] ≡ name
 last_is o [] name = refl
 last_is o (x ∷ front) name = last_is (Some x) front name
 

@@ -8,7 +8,9 @@ use Rattle.std.specs.List.Sorted.{IsStrictlySortedBy}
 use Rattle.std.specs.Map.{keys_of}
 use Rattle.std.specs.Result.{result_unwrap_or}
 use Rattle.std.proofs.lemmas.List.Concat.{flat_map-cons}
+use Rattle.std.specs.Option.{ok_or}
 use Rattle.wx_types.specs.declared.errors.Errno.{Errno}
+use Rattle.wx_types.specs.declared.errors.Errno.TheVariants.{Noent}
 use Rattle.tree_nodes.specs.Names.{NameMap}
 use Rattle.tree_nodes.proofs.MapLemmas.{put_at, put_off, entries_rise}
 use Rattle.file_tree.specs.FileTree.{FileTree, root}
@@ -161,7 +163,7 @@ module _ (tree : FileTree) where
   leads_listed : (dir d : ℕ) (name : List ℕ) → target tree.nodes dir name ≡ Some d → Among (listed tree.nodes (name, d)) (names_in tree dir)
   leads_listed dir d name e =
       let leads = leads_to tree.nodes dir d name e in
-      let is : names_at tree.nodes dir ≡ Ok leads.names = ap (λ o. and_then (and_then (Rattle.std.specs.Option.ok_or o Rattle.wx_types.specs.declared.errors.Errno.TheVariants.Noent) (λ node. Ok node.content)) names_of) leads.there ∙ ap names_of leads.content in
+      let is : names_at tree.nodes dir ≡ Ok leads.names = ap (λ o. and_then (and_then (ok_or o Noent) (λ node. Ok node.content)) names_of) leads.there ∙ ap names_of leads.content in
       subst (λ r. Among (listed tree.nodes (name, d)) (result_unwrap_or (and_then r (λ names. Ok (map (listed tree.nodes) (entries names)))) [])) (sym is)
       (among_map (listed tree.nodes) (name, d) (entries leads.names) (get_among leads.names name d leads.leads))
 

@@ -1,5 +1,5 @@
 -- What stands next, and the trees that what is left gives.
-use Rattle.std.proofs.Common.{◌≡◌, ℕ, ◌<◌, List, [], ◌∷◌, ◌++◌, length, Option, Some, None, Result, Ok, Err, refl, sym, ap, subst, ◌∙◌, append_assoc, arith}
+use Rattle.std.proofs.Common.{◌≡◌, ℕ, ◌<◌, List, [], ◌∷◌, ◌++◌, length, Some, None, Result, Ok, Err, refl, sym, ap, subst, ◌∙◌, append_assoc, arith}
 use Rattle.std.specs.List.{flat_map, AllByRecursion}
 use Rattle.std.specs.Option.{option_and_then}
 use Rattle.std.proofs.lemmas.List.{length-append}
@@ -19,10 +19,7 @@ use Rattle.boot_image.specs.Answers.{Means}
 use Rattle.boot_image.specs.Image.{Image, Remains, with_entry, with_entries}
 use Rattle.boot_image.specs.Steps.{IsBytes, SameTrees, GivesNone, Goes, Makes}
 use Rattle.boot_image.proofs.Items.{next_takes, next_again}
-
-chain : {A B : Type 0} (o : Option A) (f : A → Option B) (y : B) → option_and_then f o ≡ Some y → (x : A) × (o ≡ Some x) × (f x ≡ Some y)
-chain None f y e = absurd cc
-chain (Some x) f y e = (x, refl, e)
+use Rattle.boot_image.proofs.Under.{chain}
 
 -- the first entry, and what is left behind it
 record First (bytes : List ℕ) (before after : FileTree) : Type 0 where

@@ -1,5 +1,5 @@
 -- The image that is written of a tree is read as a tree with the same paths, kinds and contents.
-use Rattle.std.proofs.Common.{◌≡◌, ℕ, zero, suc, ◌+◌, ◌*◌, ◌^◌, ◌<◌, ◌≤◌, Bool, true, false, not, ◌||◌, List, [], ◌∷◌, ◌++◌, length, map, Option, Some, None, is_none, Ordering, Less, Equal, Greater, nat_cmp, option_map, option_and_then, refl, sym, ap, subst, ◌∙◌, ◌⊎◌, inl, inr, arith, length-append, append-nil}
+use Rattle.std.proofs.Common.{append_assoc, ◌≡◌, ℕ, suc, ◌+◌, ◌*◌, ◌<◌, ◌≤◌, true, List, [], ◌∷◌, ◌++◌, length, map, Option, Some, None, is_none, Less, nat_cmp, option_map, option_and_then, refl, sym, ap, subst, ◌∙◌, ◌⊎◌, inl, inr, arith, length-append, append-nil}
 use Rattle.std.specs.Cmp.{nat_cmp_total, tied_itself}
 use Rattle.std.specs.Cmp.Lexicographic.{slice_cmp, nat_list_cmp_total}
 use Rattle.std.specs.FinMap.{get, empty, entries, len, get-empty, len-empty, len-entries, nat_cmp-IsAntisymmetric}
@@ -18,7 +18,7 @@ use Rattle.tree_nodes.proofs.NodeLemmas.{bytes_put, bytes_taken}
 use Rattle.file_tree.specs.FileTree.{FileTree, NodeMap, root, new_node, only_root, most_nodes, most_bytes, last_number, parent_of}
 use Rattle.file_tree.specs.Names.{is_dir}
 use Rattle.file_tree.specs.Trees.{Leads, target, target_of, target_in, node_under, is_dir_node, IsName, IsTree}
-use Rattle.file_tree.proofs.Links.{none_never, some_is}
+use Rattle.file_tree.proofs.Links.{IsPlace, none_never, some_is}
 use Rattle.file_tree.proofs.TreeLemmas.{there, leads_to, root_tree, tree_with_new}
 use Rattle.boot_image.specs.Entries.{Content, Directory, File, Fits, FitsContent}
 use Rattle.boot_image.specs.Image.{joined, with_entry, with_entries}
@@ -41,7 +41,7 @@ joined_more : (front : List (List ℕ)) (last : List ℕ) → joined (front ++ l
 joined_more [] last = joined_then last [] ∙ ap (λ l. 47 ∷ l) (append-nil last)
 joined_more (x ∷ front) last =
     joined_then x (front ++ last ∷ []) ∙ ap (λ l. 47 ∷ (x ++ l)) (joined_more front last)
-    ∙ ap (λ l. 47 ∷ l) (sym (Rattle.std.proofs.Common.append_assoc x (joined front) (47 ∷ last))) ∙ ap (λ l. l ++ 47 ∷ last) (sym (joined_then x front))
+    ∙ ap (λ l. 47 ∷ l) (sym (append_assoc x (joined front) (47 ∷ last))) ∙ ap (λ l. l ++ 47 ∷ last) (sym (joined_then x front))
 
 parent_less : (front : List (List ℕ)) (last : List ℕ) → slice_cmp nat_cmp (joined front) (joined (front ++ last ∷ [])) ≡ Less
 parent_less front last = ap (slice_cmp nat_cmp (joined front)) (joined_more front last) ∙ front_less (joined front) 47 last
@@ -236,7 +236,7 @@ module _ (tree : FileTree) (ok : IsTree tree.nodes tree.next) (within : bytes_of
       at : target (grown now s.dir last (content_of tree x.1)).nodes s.dir last ≡ Some now.next
       at = leads_new now front last s.dir up.0 s.under s.leads up.1 good within_path room_now number fresh (node_content (content_of tree x.1)) (no_names_in (content_of tree x.1))
 
-      off : (d : ℕ) (n : List ℕ) → (Rattle.file_tree.proofs.Links.IsPlace s.dir last d n → ⊥) → target (grown now s.dir last (content_of tree x.1)).nodes d n ≡ target now.nodes d n
+      off : (d : ℕ) (n : List ℕ) → (IsPlace s.dir last d n → ⊥) → target (grown now s.dir last (content_of tree x.1)).nodes d n ≡ target now.nodes d n
       off = leads_old now front last s.dir up.0 s.under s.leads up.1 good within_path room_now number fresh (node_content (content_of tree x.1)) (no_names_in (content_of tree x.1))
 
       none_below : (n : List ℕ) → target (grown now s.dir last (content_of tree x.1)).nodes now.next n ≡ None

@@ -27,7 +27,7 @@ use Rattle.boot_image.specs.Entries.{Entry, Content, Directory, File}
 use Rattle.boot_image.specs.Image.{joined, is_plain, if_plain, plain_parts, made, with_entry, with_entries}
 use Rattle.boot_image.specs.Same.{content_under, ShortPaths, ReadsBack}
 use Rattle.boot_image.specs.Written.{content_of}
-use Rattle.boot_image.proofs.Growing.{new_at, leads_new, leads_old}
+use Rattle.boot_image.proofs.Growing.{last_is, new_at, leads_new, leads_old}
 use Rattle.boot_image.proofs.PlainPaths.{bytes_eq-is}
 use Rattle.boot_image.proofs.RoundTrip.{free_name}
 use Rattle.boot_image.proofs.Under.{chain, Ending, none, some, ending, under_once, before, added as one_added, found}
@@ -70,6 +70,15 @@ plain_of path parts e = by (is_empty path) (is_too_long path) (is_no_text path) 
 
 -- ---- the walk of names without `..`
 
+-- the directory in which a component that isn't `..` is taken
+step_dir : (nodes : NodeMap) (d : ℕ) (name : List ℕ) (p : Place) → step nodes d name ≡ Ok p → is_dot_dot name ≡ false → d ≡ p.dir
+step_dir nodes d name p e plain =
+    let n = then_ok (names_at nodes d) (λ names. cond (is_dot_dot name) (and_then (ok_or (parent_of nodes d) Noent) (λ parent. Ok (place_itself parent))) (Ok (record { dir = d; node = get names name }))) p e in
+    let at : Place = record { dir = d; node = get n.0 name } in
+    let f : ◌≡◌ {A = Result Place Errno} (Ok at) (Ok p) = sym (ap (λ b. cond b (and_then (ok_or (parent_of nodes d) Noent) (λ parent. Ok (place_itself parent))) (Ok at)) plain) ∙ n.2 in
+    let same : at ≡ p = cc in
+    ap (λ (q : Place). q.dir) same
+
 walk_under : (nodes : NodeMap) (place end : Place) (s : ℕ) (front : List (List ℕ)) (last : List ℕ) → place.node ≡ Some s → walk_on nodes place (front ++ last ∷ []) ≡ Ok end → list_any is_dot_dot (front ++ last ∷ []) ≡ false → node_under nodes s front ≡ Some end.dir
 walk_under nodes place end s [] last at e plain =
     let d = then_ok (ok_or place.node Noent) (λ dir. and_then (step nodes dir last) (λ next. walk_on nodes next [])) end e in
@@ -78,30 +87,14 @@ walk_under nodes place end s [] last at e plain =
     let parts = or_parts (is_dot_dot last) false plain in
     let is : n.0 ≡ end = let f : ◌≡◌ {A = Result Place Errno} (Ok n.0) (Ok end) = n.2 in cc in
     ap Some (sym same ∙ step_dir nodes d.0 last n.0 n.1 parts.0 ∙ ap (λ (p : Place). p.dir) is)
-  where
-    step_dir : (nodes : NodeMap) (d : ℕ) (name : List ℕ) (p : Place) → step nodes d name ≡ Ok p → is_dot_dot name ≡ false → d ≡ p.dir
-    step_dir nodes d name p e plain =
-        let n = then_ok (names_at nodes d) (λ names. cond (is_dot_dot name) (and_then (ok_or (parent_of nodes d) Noent) (λ parent. Ok (place_itself parent))) (Ok (record { dir = d; node = get names name }))) p e in
-        let at : Place = record { dir = d; node = get n.0 name } in
-        let f : ◌≡◌ {A = Result Place Errno} (Ok at) (Ok p) = sym (ap (λ b. cond b (and_then (ok_or (parent_of nodes d) Noent) (λ parent. Ok (place_itself parent))) (Ok at)) plain) ∙ n.2 in
-        let same : at ≡ p = cc in
-        ap (λ (q : Place). q.dir) same
 walk_under nodes place end s (x ∷ front) last at e plain =
     let d = then_ok (ok_or place.node Noent) (λ dir. and_then (step nodes dir x) (λ next. walk_on nodes next (front ++ last ∷ []))) end e in
     let n = then_ok (step nodes d.0 x) (λ next. walk_on nodes next (front ++ last ∷ [])) end d.2 in
     let same : d.0 ≡ s = let f : ◌≡◌ {A = Result ℕ Errno} (Ok s) (Ok d.0) = sym (ap (λ o. ok_or o Noent) at) ∙ d.1 in cc in
     let parts = or_parts (is_dot_dot x) (list_any is_dot_dot (front ++ last ∷ [])) plain in
-    let here : n.0.dir ≡ s = sym (stepped nodes d.0 x n.0 n.1 parts.0) ∙ same in
+    let here : n.0.dir ≡ s = sym (step_dir nodes d.0 x n.0 n.1 parts.0) ∙ same in
     more n.0 n.2 parts.1 (ap (λ k. target nodes k x) (sym here) ∙ leads_is nodes n.0.dir x n.0.node (step_ends nodes d.0 x n.0 n.1 parts.0)) (n.0.node) refl (λ t f. walk_under nodes n.0 end t front last f n.2 parts.1)
   where
-    stepped : (nodes : NodeMap) (d : ℕ) (name : List ℕ) (p : Place) → step nodes d name ≡ Ok p → is_dot_dot name ≡ false → d ≡ p.dir
-    stepped nodes d name p e plain =
-        let n = then_ok (names_at nodes d) (λ names. cond (is_dot_dot name) (and_then (ok_or (parent_of nodes d) Noent) (λ parent. Ok (place_itself parent))) (Ok (record { dir = d; node = get names name }))) p e in
-        let at : Place = record { dir = d; node = get n.0 name } in
-        let f : ◌≡◌ {A = Result Place Errno} (Ok at) (Ok p) = sym (ap (λ b. cond b (and_then (ok_or (parent_of nodes d) Noent) (λ parent. Ok (place_itself parent))) (Ok at)) plain) ∙ n.2 in
-        let same : at ≡ p = cc in
-        ap (λ (q : Place). q.dir) same
-
     goes_on : (p : Place) (rest : List (List ℕ)) (y : List ℕ) → p.node ≡ None → walk_on nodes p (rest ++ y ∷ []) ≡ Ok end → ⊥
     goes_on p [] y lacks e = let f = sym (ap (λ n. and_then (ok_or n Noent) (λ dir. and_then (step nodes dir y) (λ next. walk_on nodes next []))) lacks) ∙ e in let never : ⊥ = cc in never
     goes_on p (z ∷ rest) y lacks e = let f = sym (ap (λ n. and_then (ok_or n Noent) (λ dir. and_then (step nodes dir z) (λ next. walk_on nodes next (rest ++ y ∷ [])))) lacks) ∙ e in let never : ⊥ = cc in never
@@ -115,10 +108,6 @@ walk_under nodes place end s (x ∷ front) last at e plain =
 record Good (tree : FileTree) : Type 0 where
   is : IsTree tree.nodes tree.next
   short : ShortPaths tree
-
-last_of : (o : Option (List ℕ)) (front : List (List ℕ)) (name : List ℕ) → unwrap_or (last_or o (front ++ name ∷ [])) [] ≡ name
-last_of o [] name = refl
-last_of o (x ∷ front) name = last_of (Some x) front name
 
 -- why a node was made
 record Made (tree : FileTree) (parts : PathParts) (content : NodeContent) (place : Place) (n : ℕ) (after : FileTree) : Type 0 where
@@ -181,7 +170,7 @@ module _ (tree : FileTree) (good : Good tree) (path : List ℕ) (parts : PathPar
       by (some front last is) =
           let m = made_why tree parts content refused place n after e in
           let named = walk_to_none tree.nodes root parts place walked m.none_there in
-          let same_last : last_name parts ≡ last = ap (λ l. unwrap_or (last_or None l) []) is ∙ last_of None front last in
+          let same_last : last_name parts ≡ last = ap (λ l. unwrap_or (last_or None l) []) is ∙ last_is None front last in
           let w = (walk_parts tree.nodes root parts place walked).0 in
           let start : place_itself (cond parts.absolute root root) ≡ place_itself root = ap place_itself (from_root parts.absolute) in
           let under = walk_under tree.nodes (place_itself root) place root front last refl (ap (walk_on tree.nodes (place_itself root)) (sym is) ∙ ap (λ p. walk_on tree.nodes p parts.names) (sym start) ∙ w) (ap (list_any is_dot_dot) (sym is) ∙ plain.no_dots) in

@@ -1,6 +1,6 @@
 -- The path that joins names, split again.
-use Rattle.std.proofs.Common.{◌≡◌, ℕ, zero, suc, ◌<◌, ◌≤◌, Bool, true, false, cond, not, ◌||◌, ◌&&◌, eqb, ltb, le-ltb, List, [], ◌∷◌, ◌++◌, length, Some, None, Ok, Err, refl, sym, ap, subst, ◌∙◌, arith}
-use Rattle.std.specs.List.{AllByRecursion, filter, list_any, last_or, flat_map}
+use Rattle.std.proofs.Common.{slice_index, ◌≡◌, ℕ, zero, suc, ◌<◌, ◌≤◌, Bool, true, false, cond, not, ◌||◌, ◌&&◌, eqb, ltb, le-ltb, List, [], ◌∷◌, ◌++◌, length, Some, None, Ok, Err, refl, sym, ap, subst, ◌∙◌, arith}
+use Rattle.std.specs.List.{AllByRecursion, filter, list_any, last_or}
 use Rattle.std.specs.Str.{is_utf8, IsUtf8}
 use Rattle.std.proofs.lemmas.Bool.{false≢true, or_parts, or_from}
 use Rattle.std.proofs.lemmas.Str.{IsUtf8-nil, IsUtf8-append, IsUtf8-from_ascii, is_utf8-from_IsUtf8, IsUtf8-from_is_utf8}
@@ -50,7 +50,7 @@ all_text (name ∷ names) all =
     subst IsUtf8 (sym (joined_then name names))
     (IsUtf8-append (47 ∷ []) (name ++ joined names) (IsUtf8-from_ascii (47 ∷ []) ascii) (IsUtf8-append name (joined names) (IsUtf8-from_is_utf8 name all.0.component.text) (all_text names all.1)))
   where
-    ascii : (i : ℕ) → Rattle.std.specs.Prelude.slice_index (47 ∷ []) i < 128
+    ascii : (i : ℕ) → slice_index (47 ∷ []) i < 128
     ascii zero = omega arith
     ascii (suc i) = omega arith
 
