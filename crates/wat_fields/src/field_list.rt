@@ -14,6 +14,15 @@ pub struct Place {
     pub index: u32,
 }
 
+impl Place {
+    /// In front of all tokens.
+    pub fn start() -> Place
+        ensures { result ≡ record { index = 0 } }
+    {
+        Place { index: 0 }
+    }
+}
+
 /// What stands at a place.
 #[derive(Clone, Copy)]
 pub enum Item<'a> {
@@ -83,17 +92,17 @@ impl<'a> Fields<'a> {
     {
         let index = at.index as usize;
         match self.tokens.get(index) {
-            Some(Token::Open(line)) => Some(Met {
-                item: Item::Group(
-                    line,
-                    Place {
-                        index: at.index + 1,
+            Some(Token::Open(line)) => {
+                let inside = Place {
+                    index: at.index + 1,
+                };
+                Some(Met {
+                    item: Item::Group(line, inside),
+                    behind: Place {
+                        index: self.closings[index] + 1,
                     },
-                ),
-                behind: Place {
-                    index: self.closings[index] + 1,
-                },
-            }),
+                })
+            }
             Some(Token::Word(word)) => Some(Met {
                 item: Item::Word(word),
                 behind: Place {

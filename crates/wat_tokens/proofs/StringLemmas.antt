@@ -72,3 +72,15 @@ pub bytes_step : (text : List ℕ) (at : ℕ) (e : Spelled) (old new : List ℕ)
 bytes_step text at e old new is_new h other is low =
     ap (λ (xs : List ℕ). option_map (λ s. xs ++ s.bytes) (elements 0 (drop (at + e.length) text))) is_new
     ∙ both old e (elements 0 (drop (at + e.length) text)) ∙ ap (option_map (λ s. old ++ s.bytes)) (sym (element_at text at e h other is low))
+
+-- an element at the front, by its own length
+pub whole_element : (byte : ℕ) (rest : List ℕ) (e : Spelled) → eqb byte 34 ≡ false → element byte rest ≡ Some e → 1 ≤ e.length → elements 0 (byte ∷ rest) ≡ option_map (behind e) (elements 0 (drop e.length (byte ∷ rest)))
+whole_element byte rest e other is low =
+    let n : e.length ≡ suc (e.length - 1) = omega arith in
+    front_element byte rest e (e.length - 1) other is n ∙ ap (λ (k : ℕ). option_map (behind e) (elements 0 (drop k (byte ∷ rest)))) (sym n)
+
+pub no_element : (byte : ℕ) (rest : List ℕ) → eqb byte 34 ≡ false → element byte rest ≡ None → elements 0 (byte ∷ rest) ≡ None
+no_element byte rest other is =
+    let more : Spelled → Option Spelled = λ e. option_map (in_front e.bytes) (elements (e.length - 1) rest) in
+    let closing : Option Spelled = Some (record { length = 1; bytes = [] }) in
+    ap (λ (t : Bool). cond t closing (option_and_then more (element byte rest))) other ∙ ap (option_and_then more) is

@@ -29,7 +29,7 @@ skipped (suc n) line (byte ∷ rest) =
     skipped n (line_behind line byte) rest ∙ ap (λ (k : ℕ). tokens_from 0 k (drop n rest)) (one_line line byte (take n rest))
 
 -- a piece at the front
-front_piece : (line byte : ℕ) (rest : List ℕ) (p : Piece) (n : ℕ) → first line (byte ∷ rest) ≡ Some p → p.length ≡ suc n → tokens_from 0 line (byte ∷ rest) ≡ behind_piece p.token (tokens_from 0 (line + lines (take (suc n) (byte ∷ rest))) (drop n rest))
+pub front_piece : (line byte : ℕ) (rest : List ℕ) (p : Piece) (n : ℕ) → first line (byte ∷ rest) ≡ Some p → p.length ≡ suc n → tokens_from 0 line (byte ∷ rest) ≡ behind_piece p.token (tokens_from 0 (line + lines (take (suc n) (byte ∷ rest))) (drop n rest))
 front_piece line byte rest p n is h =
     let less : p.length - 1 ≡ n = omega arith in
     let more : ℕ → Result (List Token) ℕ = λ k. tokens_from k (line_behind line byte) rest in
@@ -76,3 +76,16 @@ read_step text start line n p old new h is low is_new is_n =
     ∙ ap (λ (k : ℕ). behind_tokens (old ++ option_to_list p.token) (tokens_from 0 (line + k) (drop (start + p.length) text))) is_n
     ∙ sym (behind_both old p.token (tokens_from 0 (line + lines (take p.length (drop start text))) (drop (start + p.length) text)))
     ∙ ap (behind_tokens old) (sym (piece_step text start line p h is low))
+
+-- a piece at the front, by its own length
+pub whole_piece : (line : ℕ) (text : List ℕ) (p : Piece) → first line text ≡ Some p → 1 ≤ p.length → tokens_from 0 line text ≡ behind_piece p.token (tokens_from 0 (line + lines (take p.length text)) (drop p.length text))
+whole_piece line [] p is low = cc
+whole_piece line (byte ∷ rest) p is low =
+    let n : p.length ≡ suc (p.length - 1) = omega arith in
+    front_piece line byte rest p (p.length - 1) is n
+    ∙ ap (λ (k : ℕ). behind_piece p.token (tokens_from 0 (line + lines (take k (byte ∷ rest))) (drop k (byte ∷ rest)))) (sym n)
+
+pub no_piece : (line byte : ℕ) (rest : List ℕ) → first line (byte ∷ rest) ≡ None → tokens_from 0 line (byte ∷ rest) ≡ Err line
+no_piece line byte rest is =
+    let more : ℕ → Result (List Token) ℕ = λ k. tokens_from k (line_behind line byte) rest in
+    ap (λ (o : Option Piece). and_then line o more) is

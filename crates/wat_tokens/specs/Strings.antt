@@ -62,7 +62,7 @@ element byte rest =
 abbrev pub in_front : List ℕ → Spelled → Spelled
 in_front bytes spelled = record { length = spelled.length + 1; bytes = bytes ++ spelled.bytes }
 
--- what the elements up to the closing quote stand for, without the first of `skipped` bytes, which belong to an element that has been read
+-- what the elements up to the closing quote stand for, behind the first `skipped` bytes, which belong to an element that has been read
 abbrev pub elements : (skipped : ℕ) → List ℕ → Option Spelled
 elements skipped [] = None
 elements (suc skipped) (byte ∷ rest) = option_map (in_front []) (elements skipped rest)

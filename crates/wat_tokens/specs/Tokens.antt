@@ -93,7 +93,7 @@ abbrev pub and_then : (line : ℕ) → Option Piece → (ℕ → Result (List To
 and_then line None rest = Err line
 and_then line (Some piece) rest = behind_piece piece.token (rest (piece.length - 1))
 
--- The tokens of a text that begins in the line of this number, without the first of `skipped` bytes, which belong to a piece that
+-- The tokens of a text that begins in the line of this number, behind the first `skipped` bytes, which belong to a piece that
 -- has been read; or the line of the first place at which no token, space or comment can be read.
 abbrev pub tokens_from : (skipped line : ℕ) → List ℕ → Result (List Token) ℕ
 tokens_from skipped line [] = Ok []
