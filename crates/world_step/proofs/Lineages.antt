@@ -10,10 +10,10 @@ use Rattle.kernel_core.proofs.Maps.{thread_cmp_total}
 use Rattle.process.specs.Lineage.{Told, ancestor, lineage, state_of, after_told}
 use Rattle.wx_types.specs.declared.entries.Entry.{Entry}
 use Rattle.world_step.specs.Boot.{Boot, boot_world, first_process}
-use Rattle.world_step.specs.Laws.{LivesByLineage, StopsAreInOrder}
+use Rattle.world_step.specs.Laws.{LivesByLineage}
 use Rattle.world_step.specs.Leads.{told_by}
 use Rattle.world_step.specs.Run.{RunFrom, RunsTo, told}
-use Rattle.world_step.specs.Stops.{AreStops, AllGone}
+use Rattle.world_step.specs.Stops.{InOrder, AreStops, AllGone}
 use Rattle.world_step.specs.World.{World}
 use Rattle.world_step.proofs.Crossing.{Crossing, Alive, Dead, Passed, crosses, slice_same}
 use Rattle.world_step.proofs.Doomed.{DoomedAreDead, stays_dead}
@@ -137,7 +137,7 @@ stops world last (e ∷ es) run dead pid start at =
     (λ process there. subst (λ n. AreStops n process (lineage turns pid) pid) (slice_same world next e run.1) (stops next last es run.2 later pid process there))
     (all_gone next last es run.2 later pid) start at
 
-pub in_order : StopsAreInOrder
+pub in_order : (boot : Boot) (entries : List Entry) → InOrder boot entries
 in_order boot entries world runs pid =
     let first : World = boot_world boot runs.program in
     let dead = begins_dead boot entries world runs in
