@@ -10,7 +10,7 @@ use Rattle.process.specs.Lineage.{lineage, state_of}
 use Rattle.world_step.specs.Boot.{Boot, first_process, boot_world, file_at, one_file}
 use Rattle.world_step.specs.Leads.{Leads}
 use Rattle.world_step.specs.Run.{RunFrom, RunsTo, Run, told}
-use Rattle.world_step.specs.History.{IsHistory}
+use Rattle.world_step.specs.Journal.{IsJournal}
 use Rattle.world_step.specs.World.{World}
 use Rattle.wx_types.specs.declared.entries.Entry.{Entry}
 
@@ -63,9 +63,9 @@ LivesByLineage =
     → get world.processes pid ≡ Some process
     → state_of (first_process boot runs.program) (lineage (told _ entries world runs.run) pid) pid ≡ Some process
 
--- a run is all that a history is
-abbrev pub RunsAreHistories : Type 0
-RunsAreHistories = (boot : Boot) (entries : List Entry) → Run boot entries → IsHistory boot entries
+-- a run is all that a journal is
+abbrev pub RunsAreJournals : Type 0
+RunsAreJournals = (boot : Boot) (entries : List Entry) → Run boot entries → IsJournal boot entries
 
 -- a boot and its entries lead to one world
 abbrev pub BootsLeadToOne : Type 0

@@ -6,5 +6,5 @@ pub mod Run
 pub mod Stops
 pub mod Written
 pub mod Pipes
-pub mod History
+pub mod Journal
 pub mod Laws

@@ -1,7 +1,7 @@
 //! The world of all processes, and how an entry of the history leads from one world to the next.
 #![tactic(auto)]
 
-ghost use Rattle.world_step.specs.Laws.{RunsBegin, RunsGoOn, RunsAreCut, EntriesAreDetermined, RunsLeadToOne, RunsStayReady, LivesByLineage, RunsAreHistories, BootsLeadToOne, OneFileIsThere};
+ghost use Rattle.world_step.specs.Laws.{RunsBegin, RunsGoOn, RunsAreCut, EntriesAreDetermined, RunsLeadToOne, RunsStayReady, LivesByLineage, RunsAreJournals, BootsLeadToOne, OneFileIsThere};
 
 /// A run begins open, with thread 1 of process 1 handed out; it goes on by one entry at its end, and is cut anywhere.
 pub fn runs_go_on()
@@ -27,10 +27,10 @@ pub fn processes_live_by_lineage()
     ensures { LivesByLineage }
 {}
 
-/// A run is all that a history is: each entry is the model's, each thread's stops stand in their order, and what was read from a
+/// A run is all that a journal is: each entry is the model's, each thread's stops stand in their order, and what was read from a
 /// pipe is a prefix of what was written to it.
-pub fn runs_are_histories()
-    ensures { RunsAreHistories }
+pub fn runs_are_journals()
+    ensures { RunsAreJournals }
 {}
 
 /// The file of a tree that has one file is at its path.

@@ -1,5 +1,5 @@
 use Rattle.world_step.proofs.Determined.{determined, one_last}
-use Rattle.world_step.proofs.Histories.{one_world}
+use Rattle.world_step.proofs.Journals.{one_world}
 use Rattle.world_step.proofs.histories_determine_worlds.Goals as goal
 
 pub returns-clause-entry : goal.returns-clause-entry

@@ -8,7 +8,7 @@ use Rattle.wx_types.specs.declared.entries.Entry.{Entry}
 
 -- It is a run of the boot; each reply is the model's there; each thread's calls are answered once and in its order; and what was
 -- read from each pipe is a prefix of what was written to it.
-pub record IsHistory (boot : Boot) (entries : List Entry) : Type 0 where
+pub record IsJournal (boot : Boot) (entries : List Entry) : Type 0 where
   pub run : Run boot entries
   pub replies : EachReply boot entries
   pub order : InOrder boot entries

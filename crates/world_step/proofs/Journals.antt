@@ -1,4 +1,4 @@
--- A run is all that a history is.
+-- A run is all that a journal is.
 use Rattle.std.proofs.Common.{◌≡◌, ℕ, Bool, true, false, List, [], ◌∷◌, ◌++◌, Result, Ok, refl, sym, ap, subst, ◌∙◌}
 use Rattle.std.specs.Prelude.{if◌then◌else◌, ◌==◌}
 use Rattle.instance.specs.Program.{Program}
@@ -10,7 +10,7 @@ use Rattle.wx_types.specs.declared.entries.Entry.{Entry}
 use Rattle.wx_types.specs.declared.errors.Errno.{Errno}
 use Rattle.wasix_abi.specs.Requests.{fd_write}
 use Rattle.world_step.specs.Boot.{Boot, BootLoads, boot_world}
-use Rattle.world_step.specs.Laws.{RunsAreHistories, BootsLeadToOne}
+use Rattle.world_step.specs.Laws.{RunsAreJournals, BootsLeadToOne}
 use Rattle.world_step.specs.Leads.{Leads, Turn, Gone}
 use Rattle.world_step.specs.Pipes.{outcome_through, moved, fd_read, ReadsArePrefixes}
 use Rattle.world_step.specs.Run.{RunFrom, RunsTo}
@@ -49,8 +49,8 @@ prefixes : (world last : World) (entries : List Entry) → RunFrom world entries
 prefixes world last entries run pipe =
     ([], moves_none fd_write world last entries run pipe ∙ ap (λ xs. xs ++ []) (sym (moves_none fd_read world last entries run pipe)))
 
-pub are_histories : RunsAreHistories
-are_histories boot entries run =
+pub are_journals : RunsAreJournals
+are_journals boot entries run =
     let runs : RunsTo boot entries run.0 = run.1 in
     record { run = run; replies = each_reply boot entries run; order = in_order boot entries; prefixes = prefixes (boot_world boot runs.program) run.0 entries runs.run }
 
