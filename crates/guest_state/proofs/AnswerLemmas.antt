@@ -18,11 +18,11 @@ use Rattle.wasm_ast.specs.declared.module.Module.{Module}
 use Rattle.wasm_ast.specs.Sequence.{Plain}
 
 -- a step that gives something had something before it
-bind_some : {A B : Type 0} (f : A → Option B) (o : Option A) (y : B) → option_and_then f o ≡ Some y → (x : A) × (o ≡ Some x) × (f x ≡ Some y)
+pub bind_some : {A B : Type 0} (f : A → Option B) (o : Option A) (y : B) → option_and_then f o ≡ Some y → (x : A) × (o ≡ Some x) × (f x ≡ Some y)
 bind_some f None y e = absurd (cc)
 bind_some f (Some x) y e = (x, refl, e)
 
-same_types : (t u : ValType) → same_type t u ≡ true → t ≡ u
+pub same_types : (t u : ValType) → same_type t u ≡ true → t ≡ u
 same_types I32 I32 e = refl
 same_types I64 I64 e = refl
 same_types F32 F32 e = refl
@@ -40,7 +40,7 @@ same_types F64 I32 e = absurd (cc)
 same_types F64 I64 e = absurd (cc)
 same_types F64 F32 e = absurd (cc)
 
-if_some : {A : Type 0} (test : Bool) (x y : A) → cond test (Some x) None ≡ Some y → (test ≡ true) × (x ≡ y)
+pub if_some : {A : Type 0} (test : Bool) (x y : A) → cond test (Some x) None ≡ Some y → (test ≡ true) × (x ≡ y)
 if_some true x y e = (refl, (cc))
 if_some false x y e = absurd (cc)
 
@@ -67,7 +67,7 @@ given_known (t ∷ ts) types =
     given_known ts (t ∷ types)
     ∙ ap operands_of (sym (ap (λ zs. zs ++ types) (reverse-append (t ∷ []) ts) ∙ append_assoc (reverse ts) (t ∷ []) types))
 
-if_true : {A : Type 0} (test : Bool) (o : Option A) (y : A) → cond test o None ≡ Some y → o ≡ Some y
+pub if_true : {A : Type 0} (test : Bool) (o : Option A) (y : A) → cond test o None ≡ Some y → o ≡ Some y
 if_true true o y e = e
 if_true false o y e = absurd (cc)
 
@@ -93,7 +93,7 @@ pop_operands-append (p ∷ ps) t s = ap (option_and_then (pop_expected p)) (pop_
 abbrev pub Applies : List ValType → List ValType → Operands → Operands → Type 0
 Applies ps rs s u = (a : Operands) × (pop_operands ps s ≡ Some a) × (u ≡ push_operands rs a)
 
-applies : (ps rs : List ValType) (s u : Operands) → applied ps rs s ≡ Some u → Applies ps rs s u
+pub applies : (ps rs : List ValType) (s u : Operands) → applied ps rs s ≡ Some u → Applies ps rs s u
 applies ps rs s u e =
     let t = bind_some (λ a. Some (push_operands rs a)) (pop_operands ps s) u e in
     (t.0, t.1, (cc t.2))
@@ -101,13 +101,20 @@ applies ps rs s u e =
 abbrev IsPair : List ValType × List ValType → List ValType × List ValType → Type 0
 IsPair p q = Some p ≡ Some q
 
-some_same : {A : Type 0} (x y : A) → Some x ≡ Some y → x ≡ y
+pub some_same : {A : Type 0} (x y : A) → Some x ≡ Some y → x ≡ y
 some_same x y e = cc
 
 same_pair : (p q : List ValType × List ValType) (s u : Operands) → IsPair p q → Applies p.0 p.1 s u → Applies q.0 q.1 s u
 same_pair p q s u e a =
     let P : List ValType × List ValType → Type 0 = λ x. Applies x.0 x.1 s u in
     subst P (some_same p q e) a
+
+-- the same of one that takes a number above its parameters
+pub number_applies : (ps rs : List ValType) (s u : Operands) → option_and_then (λ a. applied ps rs a) (pop_expected I32 s) ≡ Some u → Applies (ps ++ I32 ∷ []) rs s u
+number_applies ps rs s u e =
+    let number = bind_some (λ a. applied ps rs a) (pop_expected I32 s) u e in
+    let others = applies ps rs number.0 u number.2 in
+    (others.0, pop_operands-append ps I32 s ∙ ap (option_and_then (pop_operands ps)) number.1 ∙ others.1, others.2)
 
 pub answered_applies : (c : Context) (labels : Labels) (i : Instr) (s u : Operands) (ps rs : List ValType) → answered_types c i ≡ Some (ps, rs) → after c labels i s ≡ Some u → Applies ps rs s u
 answered_applies c labels (instr.Call x) s u ps rs types e =
@@ -118,10 +125,7 @@ answered_applies c labels (instr.CallIndirect t) s u ps rs types e =
     let all = if_true (nat_lt 0 c.tables) (option_and_then (λ (g : FuncType). option_and_then (λ a. applied g.params g.results a) (pop_expected I32 s)) (slice_get c.types t)) u e in
     let f = bind_some (λ (g : FuncType). option_and_then (λ a. applied g.params g.results a) (pop_expected I32 s)) (slice_get c.types t) u all in
     let its : IsPair (f.0.params ++ I32 ∷ [], f.0.results) (ps, rs) = rw f.1 at types in
-    let number = bind_some (λ a. applied f.0.params f.0.results a) (pop_expected I32 s) u f.2 in
-    let call = applies f.0.params f.0.results number.0 u number.2 in
-    let whole : pop_operands (f.0.params ++ I32 ∷ []) s ≡ Some call.0 = pop_operands-append f.0.params I32 s ∙ ap (option_and_then (pop_operands f.0.params)) number.1 ∙ call.1 in
-    same_pair (f.0.params ++ I32 ∷ [], f.0.results) (ps, rs) s u its (call.0, whole, call.2)
+    same_pair (f.0.params ++ I32 ∷ [], f.0.results) (ps, rs) s u its (number_applies f.0.params f.0.results s u f.2)
 answered_applies c labels (instr.Access op arg) s u ps rs types e =
     let test = if_true (nat_lt 0 c.memories && is_aligned op arg.align) (applied (access_operands op) (access_results op) s) u e in
     same_pair (access_operands op, access_results op) (ps, rs) s u types (applies (access_operands op) (access_results op) s u test)
@@ -135,7 +139,7 @@ one_result (t ∷ []) (Some v) h = h
 one_result (t ∷ u ∷ ts) None h = absurd h
 one_result (t ∷ u ∷ ts) (Some v) h = absurd h.1
 
-leaves_some : (of : Option ValType) (o : Option Operands) → leaves of o ≡ true → (x : Operands) × (o ≡ Some x) × (leaves of (Some x) ≡ true)
+pub leaves_some : (of : Option ValType) (o : Option Operands) → leaves of o ≡ true → (x : Operands) × (o ≡ Some x) × (leaves of (Some x) ≡ true)
 leaves_some of None e = absurd (cc)
 leaves_some of (Some x) e = (x, refl, e)
 

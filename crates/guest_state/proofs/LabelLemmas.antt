@@ -97,7 +97,7 @@ parted_closed (f ∷ fs) height ls l some parted =
     (parted.0, start, heights_to f.locals_end l.height height (above f.labels_start ls) heights.1 (omega arith), rw (below-append (l ∷ []) ls f.labels_start start) at parted.3)
 
 -- a thread has as many labels as its stack
-length-labels_of : (m : Module) (n low : ℕ) (vs : List ℕ) (ls : List OpenLabel) → length (labels_of (body_of m n) low vs ls) ≡ length ls
+pub length-labels_of : (m : Module) (n low : ℕ) (vs : List ℕ) (ls : List OpenLabel) → length (labels_of (body_of m n) low vs ls) ≡ length ls
 length-labels_of m n low vs [] = refl
 length-labels_of m n low vs (l ∷ ls) = ap suc (length-labels_of m n low vs ls)
 

@@ -55,7 +55,7 @@ module _ (m : Module) (f : OpenFrame) (vs : List ℕ) (ls : List OpenLabel)
   over : f.locals_end ≤ level
   over = heights_low f.locals_end (length vs) own heights
 
-  kept : (xs : List ℕ) (h : ℕ) → h ≤ level → below h (xs ++ below level vs) ≡ below h vs
+  pub kept : (xs : List ℕ) (h : ℕ) → h ≤ level → below h (xs ++ below level vs) ≡ below h vs
   kept xs h le =
       below-append xs (below level vs) h (omega (arith, length-below vs level within))
       ∙ below-below h level vs le within

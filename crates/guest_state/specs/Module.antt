@@ -1,16 +1,14 @@
 -- What a thread takes from its module.
 use Rattle.std.specs.Prelude.{ℕ, ◌-◌, ◌%◌, ◌^◌, List, ◌++◌, length, map, replicate, slice_get, Option, Some, None, option_and_then, option_to_list}
-use Rattle.std.specs.Int.{w32, w64, cast_unsigned}
 use Rattle.wasm_ast.specs.declared.types.FuncType.{FuncType}
 use Rattle.wasm_ast.specs.declared.types.ValType.{ValType}
 use Rattle.wasm_ast.specs.declared.types.ValType.TheVariants.{I32, I64, F32, F64}
-use Rattle.wasm_ast.specs.declared.instr.Instr.{Instr}
-use Rattle.wasm_ast.specs.declared.instr.Instr.TheVariants as instr
 use Rattle.wasm_ast.specs.declared.module.Code.{Code}
 use Rattle.wasm_ast.specs.declared.module.GlobalVar.{GlobalVar}
 use Rattle.wasm_ast.specs.declared.module.Module.{Module}
 use Rattle.wasm_ast.specs.Locals.{total}
-use Rattle.wasm_ast.specs.Sequence.{Sequence, Empty, Plain}
+use Rattle.wasm_ast.specs.Sequence.{Sequence, Empty}
+use Rattle.wasm_ast.specs.Table.{constant_value}
 use Rattle.wasm_ast.specs.TypingModule.{functions_of, globals_of}
 
 -- the instructions of the module's own function of that number
@@ -44,17 +42,6 @@ further_locals m n = local_total (slice_get m.codes n) where
 abbrev pub own_function : Module → ℕ → ℕ
 own_function m x = x - length (functions_of m.imports)
 
--- The first value of a global: that of its constant, as the bits of its type. An imported global, which no linked program
--- has, is 0, and so is what takes its value.
-abbrev pub instruction_constant : Instr → ℕ
-instruction_constant (instr.I32Const n) = cast_unsigned w32 n
-instruction_constant (instr.I64Const n) = cast_unsigned w64 n
-instruction_constant i = 0
-
-abbrev pub constant_value : Sequence → ℕ
-constant_value (Plain i rest) = instruction_constant i
-constant_value s = 0
-
 -- how many bits a value of a type has
 abbrev pub type_bits : ValType → ℕ
 type_bits I32 = 32
@@ -62,6 +49,8 @@ type_bits I64 = 64
 type_bits F32 = 32
 type_bits F64 = 64
 
+-- The first value of a global: that of its constant, as the bits of its type. An imported global, which no linked program
+-- has, is 0, and so is what takes its value.
 abbrev pub first_value : GlobalVar → ℕ
 first_value g = constant_value g.init % 2 ^ type_bits g.of
 

@@ -1,5 +1,5 @@
 -- What the code keeps of a thread, and the thread that it stands for. Nothing else knows of positions and heights.
-use Rattle.std.specs.Prelude.{ℕ, Bool, List, [], ◌∷◌, length, reverse, if◌then◌else◌}
+use Rattle.std.specs.Prelude.{ℕ, Bool, List, [], ◌∷◌, length, reverse, slice_get, Option, Some, None, if◌then◌else◌}
 use Rattle.wasm_ast.specs.declared.module.Module.{Module}
 use Rattle.wasm_ast.specs.declared.position.Position.{Position}
 use Rattle.wasm_ast.specs.Position.{remaining}
@@ -91,6 +91,25 @@ first_open (f ∷ fs) labels = length (above f.labels_start labels)
 
 abbrev pub open_count : Snapshot → ℕ
 open_count s = first_open s.frames s.labels
+
+-- how many operands a branch to one of its labels takes along, and how many values it gives back
+abbrev pub first_labels : List OpenFrame → List OpenLabel → List OpenLabel
+first_labels [] labels = []
+first_labels (f ∷ fs) labels = above f.labels_start labels
+
+abbrev pub label_arity : Option OpenLabel → ℕ
+label_arity None = 0
+label_arity (Some l) = if l.carries then 1 else 0
+
+abbrev pub branch_arity : ℕ → Snapshot → ℕ
+branch_arity n s = label_arity (slice_get (first_labels s.frames s.labels) n)
+
+abbrev pub first_arity : List OpenFrame → ℕ
+first_arity [] = 0
+first_arity (f ∷ fs) = if f.returns then 1 else 0
+
+abbrev pub result_arity : Snapshot → ℕ
+result_arity s = first_arity s.frames
 
 -- its locals
 abbrev pub first_locals : List OpenFrame → List ℕ → List ℕ

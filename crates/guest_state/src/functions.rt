@@ -2,13 +2,16 @@
 ghost use Rattle.std.specs.Prelude.{◌≡◌, ◌+◌, ◌<◌, ◌^◌, if◌then◌else◌, length, IfOk, IsSome, option_copied};
 ghost use Rattle.wasm_ast.specs.TypingModule.{functions_of, globals_of};
 ghost use Rattle.wasm_ast.specs.Locals.{total};
-ghost use Rattle.wasm_ast.specs.Position.{BeginsWith, behind, remaining};
+ghost use Rattle.wasm_ast.specs.Position.{IsInstrAt, behind, remaining};
+ghost use Rattle.wasm_ast.specs.Table.{constant_value, instruction_constant};
 ghost use Rattle.guest_state.specs.Steps.{over_arguments, over_instruction};
-ghost use Rattle.guest_state.specs.Module.{body_of, own_function, type_of, further_locals, first_globals, result_count, constant_value, first_value, instruction_constant};
+ghost use Rattle.guest_state.specs.Module.{body_of, own_function, type_of, further_locals, first_globals, param_count, result_count, first_value};
 
 use super::entries::OpenFrame;
 use std::alloc::{AllocError, Global};
-use wasm_ast::{Body, GlobalVar, Import, ImportKind, Instr, LocalGroup, Module, Position, ValType};
+use wasm_ast::{
+    Body, FuncType, GlobalVar, Import, ImportKind, Instr, LocalGroup, Module, Position, ValType,
+};
 
 /// How many of the imports are functions.
 fn imported_functions(imports: &[Import]) -> usize
@@ -70,17 +73,32 @@ pub fn further_locals(module: &Module, function: u32) -> usize
     group_total(code.locals.groups())
 }
 
+/// The type of the module's own function of that number.
+fn type_of(module: &Module, function: u32) -> Option<&FuncType>
+    ensures { option_copied result ≡ type_of «module».now function }
+{
+    let of = module.functions.as_slice().get(function as usize)?;
+    module.types.as_slice().get(*of as usize)
+}
+
+/// How many parameters it has.
+pub fn params(module: &Module, function: u32) -> usize
+    ensures { result ≡ param_count (type_of «module».now function) }
+{
+    match type_of(module, function) {
+        Some(of) => of.params.len(),
+        None => 0,
+    }
+}
+
 /// Whether it gives a value back.
 pub fn returns(module: &Module, function: u32) -> bool
     ensures { (if result then 1 else 0) ≡ result_count (type_of «module».now function) }
 {
-    let Some(of) = module.functions.as_slice().get(function as usize) else {
-        return false;
-    };
-    let Some(of) = module.types.as_slice().get(*of as usize) else {
-        return false;
-    };
-    !of.results.is_empty()
+    match type_of(module, function) {
+        Some(of) => !of.results.is_empty(),
+        None => false,
+    }
 }
 
 /// The number of a constant, and 0 of any other instruction.
@@ -129,7 +147,7 @@ pub fn first_globals(alloc: Global, module: &Module) -> Result<Vec<u64>, AllocEr
 
 /// The instruction at which a frame stands, if it isn't at the end of a list.
 fn instruction(module: &Module, frame: OpenFrame) -> Option<&Instr>
-    ensures value { BeginsWith (body_of «module».now frame.function) frame.place (option_copied result) }
+    ensures value { IsInstrAt (body_of «module».now frame.function) frame.place (option_copied result) }
     ensures room { IsSome result → frame.place.index + 1 < 2 ^ 64 }
 {
     match module.codes.as_slice().get(frame.function as usize) {

@@ -1,5 +1,5 @@
 // A stack whose room is taken when it is made.
-ghost use Rattle.std.specs.Prelude.{◌≡◌, ◌+◌, ◌<◌, ◌≤◌, ◌-◌, [], ◌∷◌, ◌++◌, reverse, replicate, length, drop, IfOk, Some, option_to_list, slice_get, slice_set};
+ghost use Rattle.std.specs.Prelude.{◌≡◌, ◌+◌, ◌<◌, ◌≤◌, ◌-◌, [], ◌∷◌, ◌++◌, reverse, replicate, length, take, drop, IfOk, Some, option_to_list, slice_get, slice_set, if◌then◌else◌};
 ghost use Rattle.std.specs.Bool.{OnTrue, OnFalse};
 ghost use Rattle.guest_state.specs.Heights.{above, below};
 
@@ -120,6 +120,21 @@ impl<T: Copy> Stack<T> {
         ensures { self.new ≡ record self.old { items = below height self.old.items } }
     {
         self.height = height;
+    }
+
+    /// Keeps the elements up to a height, and where it is said so the last one above them.
+    #[inline(always)]
+    pub fn keep_with(&mut self, height: usize, last: bool)
+        requires { height + (if last then 1 else 0) ≤ length self.old.items }
+        ensures { self.new ≡ record self.old { items = take (if last then 1 else 0) self.old.items ++ below height self.old.items } }
+    {
+        if last {
+            let item = self.at(self.len() - 1);
+            self.keep(height);
+            self.push(item);
+        } else {
+            self.keep(height);
+        }
     }
 
     /// An equal stack. `AllocError` is want of memory and nothing else.

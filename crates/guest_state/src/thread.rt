@@ -1,9 +1,9 @@
 // A guest thread, and what is done to it from outside the interpreter.
-ghost use Rattle.std.specs.Prelude.{◌≡◌, ◌+◌, ◌-◌, ◌≤◌, ◌<◌, length, [], IfOk, OnOk, OnErr, IfErr, Ok, Err, ◌∷◌, drop, option_to_list, true, None};
+ghost use Rattle.std.specs.Prelude.{◌≡◌, ◌+◌, ◌-◌, ◌≤◌, ◌<◌, length, [], IfOk, OnOk, OnErr, IfErr, Ok, Err, ◌∷◌, drop, option_to_list, true, None, nat_le};
 ghost use Rattle.guest_state.specs.Module.{own_function, type_of, further_locals, first_globals, result_count};
 ghost use Rattle.wasm_ast.specs.TypingModule.{is_typed};
 ghost use Rattle.guest_state.specs.Fits.{Accepts, Fits, IsAnsweredBy, result_of};
-ghost use Rattle.guest_state.specs.Snapshot.{placed, thread_of};
+ghost use Rattle.guest_state.specs.Snapshot.{first_height, placed, thread_of};
 ghost use Rattle.guest_state.specs.GuestThread.{in_frame, value_count};
 ghost use Rattle.guest_state.specs.Steps.{started, with_frame, has_room, taken_count, operand_count, arguments_of, answered};
 ghost use Rattle.std.specs.Bool.{OnTrue};
@@ -13,7 +13,8 @@ mod steps;
 
 use super::entries::{OpenFrame, OpenLabel};
 use super::functions::{
-    behind_instruction, first_globals, further_locals, over_arguments, own_function, returns,
+    behind_instruction, first_globals, further_locals, over_arguments, own_function, params,
+    returns,
 };
 use super::stack::{Stack, push_all, push_option};
 use int_ops::Cause;
@@ -57,6 +58,15 @@ impl Model for Thread {
 }
 
 impl Thread {
+    /// Whether a thread can begin the function of that index with so many arguments: with the function's other locals
+    /// they are at most 65,536 values.
+    pub fn can_start(module: &Module, function: u32, count: usize) -> bool
+        ensures { result ≡ nat_le (count + further_locals «module».now (own_function «module».now function)) 65536 }
+    {
+        let zeros = further_locals(module, own_function(module, function));
+        zeros <= MOST_VALUES && count <= MOST_VALUES - zeros
+    }
+
     /// A thread that begins a function, given by its index, with these arguments. It takes room for 1,024
     /// frames, 65,536 values and 16,384 labels, so that nothing done to it later takes any. `AllocError` is want
     /// of memory and nothing else.
@@ -181,6 +191,32 @@ impl Thread {
         });
         self.base = start;
         Ok(())
+    }
+
+    // How many values stand below the operands of the innermost block.
+    fn first_height(&self) -> usize
+        requires { 0 < length self.now.frames }
+        ensures value { result ≡ first_height self.now.frames self.now.labels }
+        ensures within { result ≤ length self.now.values }
+    {
+        let frame = self.innermost();
+        let labels = self.labels.len();
+        if labels > frame.labels_start {
+            self.labels.at(labels - 1).height
+        } else {
+            frame.locals_end
+        }
+    }
+
+    /// Whether the innermost block has the operands that a call, wait or notify of `count` arguments takes where the
+    /// thread stands at one: the arguments, and at a `call_indirect` the number in the table.
+    pub fn has_arguments(&self, module: &Module, count: usize) -> bool
+        requires { 0 < length self.now.frames }
+        ensures { result ≡ nat_le (taken_count (thread_of «module».now self.now) count) (operand_count (thread_of «module».now self.now)) }
+    {
+        let over = over_arguments(module, self.innermost());
+        let operands = self.values.len() - self.first_height();
+        over <= operands && count <= operands - over
     }
 
     // How many values stand below the arguments of the call, wait or notify of `count` arguments at which the thread stands.

@@ -6,7 +6,7 @@ use Rattle.std.specs.Str.{bytes_eq}
 use Rattle.wasm_ast.specs.declared.types.ValType.{ValType}
 use Rattle.wasm_ast.specs.declared.types.ValType.TheVariants.{I32, I64}
 use Rattle.wasm_ast.specs.declared.types.FuncType.{FuncType}
-use Rattle.wasm_steps.specs.Table.{same_types}
+use Rattle.wasm_ast.specs.Table.{same_types}
 
 -- What ends a slice and is no row of the table has a number too. There is no such thread; the slice was spent; no fuel is left;
 -- the next step traps; the last frame has returned.

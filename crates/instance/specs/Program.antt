@@ -18,7 +18,7 @@ use Rattle.wasm_ast.specs.TypingModule.{functions_of}
 use Rattle.guest_state.specs.GuestThread.{GuestThread}
 use Rattle.guest_state.specs.Module.{own_function}
 use Rattle.guest_state.specs.Steps.{entered, started}
-use Rattle.wasm_steps.specs.Table.{function_type, same_types, offset_value}
+use Rattle.wasm_ast.specs.Table.{function_type, same_types, offset_value}
 
 -- a module whose imports are linked: the number of the call that each imported function is, in the order of the imports
 pub record Program : Type 0 where

@@ -9,7 +9,7 @@ use Rattle.linear_memory.specs.LinearMemory.{LinearMemory}
 use Rattle.linear_memory.specs.Accesses.{number_at}
 use Rattle.wasix_abi.specs.Requests.{plain_request, nine_words, request_of}
 use Rattle.wasm_steps.specs.Stepped.{Stepped, Next, Trapped, AtCall, AtWait, AtNotify, Finished, Stuck}
-use Rattle.wasm_steps.specs.Table.{function_type}
+use Rattle.wasm_ast.specs.Table.{function_type}
 use Rattle.wx_types.specs.declared.requests.Request.{Request}
 
 -- how many arguments a call of an imported function takes

@@ -19,6 +19,7 @@ pub mod SpelledInstr
 pub mod SpelledModule
 pub mod Typing
 pub mod TypingModule
+pub mod Table
 pub mod Shortest
 pub mod CanonInstr
 pub mod Canon

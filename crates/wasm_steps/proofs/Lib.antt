@@ -1,0 +1,10 @@
+pub mod Branches
+pub mod Calls
+pub mod ControlSteps
+pub mod Kept
+pub mod Memories
+pub mod Operands
+pub mod Running
+pub mod ValueSteps
+pub mod Values
+pub mod VariableSteps

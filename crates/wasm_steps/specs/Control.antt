@@ -9,11 +9,11 @@ use Rattle.wasm_ast.specs.declared.instr.BlockKind.{BlockKind}
 use Rattle.wasm_ast.specs.declared.instr.BlockKind.TheVariants as kind
 use Rattle.wasm_ast.specs.declared.module.Module.{Module}
 use Rattle.wasm_ast.specs.Sequence.{Sequence, Empty, Plain, Block, If}
+use Rattle.wasm_ast.specs.Table.{table_size, last_put, function_type, same_function_type}
 use Rattle.wasm_ast.specs.TypingModule.{functions_of}
 use Rattle.guest_state.specs.GuestThread.{Label, Frame, GuestThread, value_count, label_count, in_frame}
 use Rattle.guest_state.specs.Steps.{most_values, most_labels, opened, closed, branched, left, called, returned}
 use Rattle.wasm_steps.specs.Stepped.{Stepped, Next, Trapped, AtCall, Stuck, goes, leaves}
-use Rattle.wasm_steps.specs.Table.{table_size, last_put, function_type, same_function_type}
 
 -- how many values a block type has
 abbrev pub arity_of : Option ValType → ℕ
@@ -97,7 +97,7 @@ step_call m memory thread f x rest operands = of_type (function_type m x) where
 abbrev pub step_call_indirect : Module → LinearMemory → GuestThread → Frame → ℕ → Sequence → List ℕ → Stepped
 step_call_indirect m memory thread f t rest [] = Stuck
 step_call_indirect m memory thread f t rest (i ∷ operands) =
-    if nat_lt i (table_size m) then at_place (last_put m.elements i) else Trapped UndefinedElement
+    if nat_lt i (table_size m) then at_place (last_put m m.elements i) else Trapped UndefinedElement
   where
     of_types : ℕ → Option FuncType → Option FuncType → Stepped
     of_types x None found = Stuck

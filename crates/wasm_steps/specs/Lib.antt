@@ -1,4 +1,3 @@
-pub mod Table
 pub mod Stepped
 pub mod Control
 pub mod Variable
@@ -6,3 +5,4 @@ pub mod Numeric
 pub mod Memory
 pub mod Atomic
 pub mod Step
+pub mod Kept

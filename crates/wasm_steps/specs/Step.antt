@@ -1,6 +1,6 @@
 -- One step of a guest thread, and several (WebAssembly Core 1.0, 4.4, and the threads proposal).
 use Rattle.std.specs.Prelude.{ℕ, zero, suc, if◌then◌else◌, List, [], ◌∷◌, Option, Some, None}
-use Rattle.std.specs.Int.{w32, w64, cast_unsigned}
+use Rattle.int_ops.specs.Representation.{modulo}
 use Rattle.int_ops.specs.declared.trap.Cause.TheVariants.{Unreachable, StackFull}
 use Rattle.linear_memory.specs.LinearMemory.{LinearMemory}
 use Rattle.wasm_ast.specs.declared.instr.Instr.{Instr}
@@ -49,8 +49,8 @@ step_plain m memory thread f (instr.Access op arg) rest = step_access memory thr
 step_plain m memory thread f instr.MemorySize rest = step_size memory thread f rest
 step_plain m memory thread f instr.MemoryGrow rest = step_grow memory thread rest f.operands
 step_plain m memory thread f instr.Fence rest = leaves memory thread rest f.operands
-step_plain m memory thread f (instr.I32Const value) rest = pushes memory thread f rest (cast_unsigned w32 value)
-step_plain m memory thread f (instr.I64Const value) rest = pushes memory thread f rest (cast_unsigned w64 value)
+step_plain m memory thread f (instr.I32Const value) rest = pushes memory thread f rest (modulo 32 value)
+step_plain m memory thread f (instr.I64Const value) rest = pushes memory thread f rest (modulo 64 value)
 step_plain m memory thread f (instr.Numeric op) rest = step_numeric memory thread op rest f.operands
 step_plain m memory thread f instr.Float rest = Stuck
 

@@ -1,14 +1,14 @@
 -- Behind the events of a sequence the operands are those that its typing leaves.
-use Rattle.std.proofs.Common.{◌≡◌, Bool, true, false, ◌&&◌, cond, List, [], ◌∷◌, ◌++◌, Option, Some, None, option_and_then, option_map, option_to_list, refl, sym, ap, ◌∙◌}
+use Rattle.std.proofs.Common.{◌≡◌, Bool, true, false, ◌&&◌, cond, List, [], ◌∷◌, ◌++◌, Option, Some, None, option_and_then, option_map, option_to_list, refl, sym, ap, ◌∙◌, arith}
 use Rattle.wasm_ast.specs.declared.types.ValType.{ValType}
 use Rattle.wasm_ast.specs.declared.types.ValType.TheVariants.{I32}
 use Rattle.wasm_ast.specs.declared.instr.BlockKind.{BlockKind}
 use Rattle.wasm_ast.specs.declared.instr.BlockKind.TheVariants as kind
 use Rattle.wasm_ast.specs.Sequence.{Sequence, Empty, Plain, Block, If}
-use Rattle.wasm_ast.specs.Events.{Event, Instruction, Begin, Else, End, is_empty, events}
-use Rattle.wasm_ast.specs.Typing.{Context, Labels, Operands, no_operands, push_operands, pop_expected, after, leaves, typed, label_of, is_body}
-use Rattle.wasm_validate.specs.Blocks.{Enclosing, OpenBlocks, labels_of, first_block, opened, ended}
-use Rattle.wasm_validate.specs.Algorithm.{fitting, with_operands, begun, at_else, at_end, step, behind}
+use Rattle.wasm_ast.specs.Events.{Event, Else, End, is_empty, events}
+use Rattle.wasm_ast.specs.Typing.{Context, Operands, no_operands, push_operands, pop_expected, after, leaves, typed, label_of, is_body}
+use Rattle.wasm_validate.specs.Blocks.{OpenBlocks, labels_of, first_block, opened, ended}
+use Rattle.wasm_validate.specs.Algorithm.{fitting, with_operands, step, behind}
 
 -- what doesn't fit is not mended
 behind_none : (c : Context) (es : List Event) → behind c es None ≡ None
@@ -57,8 +57,7 @@ module _ (c : Context) where
       ∙ over_if rest g v (push_operands (option_to_list of) s) (leaves of o)
 
   both : {A : Type 0} (a b : Bool) (x : Option A) → cond a (cond b x None) None ≡ cond (a && b) x None
-  both true b x = refl
-  both false b x = refl
+  both a b x = grind arith
 
   second_typed : (second rest : Sequence) → IsTyped second → IsTyped rest → (of : Option ValType) (v : OpenBlocks) (s : Operands) (a : Bool) →
       behind c (events second ++ (End ∷ events rest)) (cond a (Some (opened kind.Block of (with_operands v s))) None)

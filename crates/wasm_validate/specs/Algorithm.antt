@@ -8,7 +8,7 @@ use Rattle.wasm_ast.specs.declared.instr.Construct.{Construct}
 use Rattle.wasm_ast.specs.declared.instr.Construct.TheVariants as construct
 use Rattle.wasm_ast.specs.Events.{Event, Instruction, Begin, Else, End}
 use Rattle.wasm_ast.specs.Typing.{Context, Operands, no_operands, push_operands, pop_expected, after, leaves}
-use Rattle.wasm_validate.specs.Blocks.{Outer, Enclosing, OpenBlocks, labels_of, opened}
+use Rattle.wasm_validate.specs.Blocks.{Outer, OpenBlocks, labels_of, opened}
 
 -- the open blocks, if what came fits
 abbrev pub fitting : Bool → OpenBlocks → Option OpenBlocks

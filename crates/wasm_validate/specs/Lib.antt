@@ -3,3 +3,4 @@ pub mod View
 pub mod Context
 pub mod Algorithm
 pub mod Ends
+pub mod Elements

@@ -4,6 +4,7 @@
 mod blocks;
 mod body;
 mod context;
+mod elements;
 mod imported;
 mod instruction;
 mod module;

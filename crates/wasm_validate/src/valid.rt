@@ -1,13 +1,16 @@
 // A module that is known to be typed.
-ghost use Rattle.std.specs.Prelude.{◌≡◌, false, IsTrue, IfOk, OnOk, IfErr};
-ghost use Rattle.wasm_ast.specs.TypingModule.{is_typed};
+ghost use Rattle.std.specs.Prelude.{◌≡◌, false, IsTrue, IfOk, OnOk, IfErr, length, option_copied};
+ghost use Rattle.wasm_ast.specs.Table.{function_type, last_put};
+ghost use Rattle.wasm_ast.specs.TypingModule.{functions_of, is_typed};
 ghost use Rattle.wasm_validate.specs.declared.valid.ValidateFault.TheVariants.{Memory};
 
+use super::elements::{first_places, last_put};
+use super::imported::functions;
 use super::module::is_module;
 use std::alloc::{AllocError, Global};
 use std::marker::Model;
 use thiserror::Error;
-use wasm_ast::Module;
+use wasm_ast::{FuncType, Module};
 
 /// Why a module was refused.
 #[derive(Debug, Drop, Error)]
@@ -32,6 +35,8 @@ impl From<AllocError> for ValidateFault {
 #[derive(Drop)]
 pub struct Valid {
     module: Module,
+    functions: Vec<u32>,
+    places: Vec<Option<u32>>,
 }
 
 impl Model for Valid {
@@ -43,12 +48,11 @@ impl Model for Valid {
 
     ghost coded = { the_module.the_row.coded };
 
-    ghost use Rattle.std.specs.Prelude.{IsTrue};
-    ghost use Rattle.wasm_ast.specs.TypingModule.{is_typed};
+    ghost use Rattle.wasm_validate.specs.Elements.{IsValid};
 
     ghost view = { λ v. v.module };
 
-    ghost invariant = { λ v. IsTrue (is_typed v.module) };
+    ghost invariant = { λ v. IsValid v.module v.functions.items v.places.items };
 }
 
 impl Valid {
@@ -58,6 +62,36 @@ impl Valid {
         ensures typed { IsTrue (is_typed result.now) }
     {
         &self.module
+    }
+
+    /// How many functions it imports: these have the indices below that of the first of its own.
+    #[inline(always)]
+    pub fn imported_functions(&self) -> usize
+        ensures { result ≡ length (functions_of self.now.imports) }
+    {
+        self.functions.len() - self.module.functions.len()
+    }
+
+    /// The type of the function of that index, imported functions first, if there is one (3.1.1).
+    #[inline(always)]
+    pub fn function_type(&self, index: u32) -> Option<&FuncType>
+        ensures { option_copied result ≡ function_type self.now index }
+    {
+        let of = self.functions.as_slice().get(index as usize)?;
+        self.module.types.as_slice().get(*of as usize)
+    }
+
+    /// The index of the function that the element segments put at a place of the table, if any: that of the last
+    /// one counts (4.5.4). The first 65,536 places of the table are looked up; for one behind them the segments are
+    /// gone through.
+    #[inline(always)]
+    pub fn element(&self, place: u32) -> Option<u32>
+        ensures { result ≡ last_put self.now self.now.elements place }
+    {
+        match self.places.as_slice().get(place as usize) {
+            Some(function) => *function,
+            None => last_put(&self.module, place),
+        }
     }
 }
 
@@ -72,5 +106,15 @@ pub fn validate(alloc: Global, checked: Module) -> Result<Valid, ValidateFault>
     if !is_module(alloc, &checked)? {
         return Err(ValidateFault::Invalid);
     }
-    Ok(Valid { module: checked })
+    let functions = functions(
+        alloc,
+        checked.imports.as_slice(),
+        checked.functions.as_slice(),
+    )?;
+    let places = first_places(alloc, &checked)?;
+    Ok(Valid {
+        module: checked,
+        functions,
+        places,
+    })
 }

@@ -1,16 +1,22 @@
 // What the interpreter does to a thread in one step. Between two calls it keeps the place of the innermost frame itself.
-ghost use Rattle.std.specs.Prelude.{◌≡◌, ◌+◌, ◌-◌, ◌≤◌, ◌<◌, length, [], ◌∷◌, Some, OnOk, OnErr, IsOkUnless, is_err, nat_le, slice_get, slice_set, if◌then◌else◌};
+ghost use Rattle.std.specs.Prelude.{◌≡◌, ◌+◌, ◌-◌, ◌≤◌, ◌<◌, length, [], ◌∷◌, Some, Ok, Err, IfErr, OnOk, OnErr, IsOkUnless, is_err, nat_le, slice_get, slice_set, if◌then◌else◌};
+ghost use Rattle.std.specs.Bool.{OnTrue, OnFalse};
 ghost use Rattle.int_ops.specs.declared.trap.Cause.TheVariants.{StackFull};
 ghost use Rattle.wasm_ast.specs.declared.module.Module.{Module};
 ghost use Rattle.wasm_ast.specs.declared.position.Position.{Position};
 ghost use Rattle.guest_state.specs.GuestThread.{in_frame, label_count, value_count};
-ghost use Rattle.guest_state.specs.Snapshot.{innermost_body, locals_of, open_count, operands_of, thread_at, thread_of};
+ghost use Rattle.guest_state.specs.Module.{further_locals, param_count, type_of};
+ghost use Rattle.guest_state.specs.Snapshot.{branch_arity, first_function, innermost_body, locals_of, open_count, operands_of, result_arity, thread_at, thread_of};
 ghost use Rattle.wasm_ast.specs.Position.{remaining};
-ghost use Rattle.guest_state.specs.Steps.{closed, opened, with_local, with_operands};
+ghost use Rattle.wasm_ast.specs.Sequence.{Empty};
+ghost use Rattle.guest_state.specs.Steps.{branched, called, closed, has_room, left, opened, returned, with_local, with_operands};
 
-use super::{OpenLabel, Thread};
+use super::{
+    MOST_FRAMES, MOST_VALUES, OpenFrame, OpenLabel, Thread, further_locals, params, push_all,
+    returns,
+};
 use int_ops::Cause;
-use wasm_ast::Position;
+use wasm_ast::{Module, Position};
 
 impl Thread {
     /// The last operand but so many, of the innermost block.
@@ -130,6 +136,146 @@ impl Thread {
         let label = self.labels.at(last);
         self.labels.keep(last);
         label.end
+    }
+
+    /// Branches to a label of the innermost function, counted from the innermost from 0 on, and gives the place
+    /// where the branch goes on. Of the operands inside, only the value that it takes along stays, if any (4.4.6).
+    #[inline(always)]
+    pub fn branch(&mut self, depth: usize) -> Position
+        requires some { 0 < length self.old.frames }
+        requires inside { depth < open_count self.old }
+        requires enough { branch_arity depth self.old ≤ length (operands_of self.old) }
+        ensures value { (m : Module) (place : Position) → thread_at m result self.new ≡ in_frame (branched depth) (thread_at m place self.old) }
+        ensures frames { length self.new.frames ≡ length self.old.frames }
+    {
+        let last = self.labels.len() - 1 - depth;
+        let label = self.labels.at(last);
+        self.labels.keep(last);
+        self.values.keep_with(label.height, label.carries);
+        label.branch
+    }
+
+    /// Branches out of all blocks of the innermost function: its result stays, if it gives one back, and it goes on
+    /// at a place where no instruction is left (4.4.6).
+    #[inline(always)]
+    pub fn leave(&mut self)
+        requires some { 0 < length self.old.frames }
+        requires enough { result_arity self.old ≤ length (operands_of self.old) }
+        ensures value { (m : Module) (place end : Position) → remaining (innermost_body m self.old) end ≡ Empty → thread_at m end self.new ≡ in_frame left (thread_at m place self.old) }
+        ensures frames { length self.new.frames ≡ length self.old.frames }
+    {
+        let frame = self.innermost();
+        self.labels.keep(frame.labels_start);
+        self.values.keep_with(frame.locals_end, frame.returns);
+    }
+
+    /// Calls the module's own function of that number: the last operands become its first locals where they stand,
+    /// and the caller rests behind the call (4.4.7). `StackFull` comes exactly where there would be more than 1,024
+    /// frames or 65,536 values, the locals of the new frame among them; the thread is unchanged then. No memory is
+    /// taken.
+    pub fn call(&mut self, module: &Module, function: u32, behind: Position) -> Result<(), Cause>
+        requires some { 0 < length self.old.frames }
+        requires enough { param_count (type_of «module».now function) ≤ length (operands_of self.old) }
+        ensures ok { OnOk result (called «module».now function (thread_at «module».now behind self.old) ≡ Ok (thread_at «module».now (record { list = 0; index = 0 }) self.new)) }
+        ensures err { IfErr result (λ cause. called «module».now function (thread_at «module».now behind self.old) ≡ Err cause) }
+        ensures unchanged { OnErr result (self.new ≡ self.old) }
+        ensures frames { OnOk result (length self.new.frames ≡ length self.old.frames + 1) }
+    {
+        let zeros = further_locals(module, function);
+        if !self.has_room(zeros) {
+            return Err(Cause::StackFull);
+        }
+        self.place_innermost(behind);
+        let start = self.values.len() - params(module, function);
+        push_all(&mut self.values, &[], zeros);
+        self.frames.push(OpenFrame {
+            function,
+            returns: returns(module, function),
+            locals_start: start,
+            locals_end: self.values.len(),
+            labels_start: self.labels.len(),
+            place: Position::start(0),
+        });
+        self.base = start;
+        Ok(())
+    }
+
+    /// Returns from the innermost function: its result, if it gives one back, stands above the operands of the frame
+    /// below, which is at its own place (4.4.7). Where there is no frame below, the thread has finished.
+    pub fn return_(&mut self)
+        requires some { 0 < length self.old.frames }
+        requires enough { result_arity self.old ≤ length (operands_of self.old) }
+        ensures value { (m : Module) (place : Position) → thread_of m self.new ≡ returned (thread_at m place self.old) }
+        ensures frames { length self.new.frames + 1 ≡ length self.old.frames }
+    {
+        let frame = self.innermost();
+        let below = self.frames.len() - 1;
+        self.frames.keep(below);
+        self.labels.keep(frame.labels_start);
+        if below == 0 {
+            self.values.keep(0);
+            self.base = 0;
+        } else {
+            self.values.keep_with(frame.locals_start, frame.returns);
+            self.base = self.frames.at(below - 1).locals_start;
+        }
+    }
+
+    /// Whether its last frame has returned.
+    #[inline(always)]
+    pub fn is_finished(&self) -> bool
+        ensures finished { OnTrue result (self.now.frames ≡ []) }
+        ensures runs { OnFalse result (0 < length self.now.frames) }
+    {
+        self.frames.len() == 0
+    }
+
+    /// Whether a handler's frame found no room, so that the next step traps.
+    #[inline(always)]
+    pub fn is_full(&self) -> bool
+        ensures { result ≡ self.now.full }
+    {
+        self.full
+    }
+
+    /// The number of the innermost function among the module's own.
+    #[inline(always)]
+    pub fn function(&self) -> u32
+        requires { 0 < length self.now.frames }
+        ensures { result ≡ first_function self.now.frames }
+    {
+        self.innermost().function
+    }
+
+    /// How many values there are, the locals of all frames among them: at most 65,536.
+    #[inline(always)]
+    pub fn value_count(&self) -> usize
+        ensures value { (m : Module) (place : Position) → result ≡ value_count (thread_at m place self.now) }
+        ensures rest { (m : Module) → result ≡ value_count (thread_of m self.now) }
+        ensures within { result ≤ 65536 }
+    {
+        self.values.len()
+    }
+
+    /// How many labels are open in all frames: at most 16,384.
+    #[inline(always)]
+    pub fn label_count(&self) -> usize
+        ensures value { (m : Module) (place : Position) → result ≡ label_count (thread_at m place self.now) }
+        ensures within { result ≤ 16384 }
+    {
+        self.labels.len()
+    }
+
+    /// Whether a call of the module's own function of that number would find room, once so many operands that stand over
+    /// its arguments are gone.
+    pub fn call_fits(&self, module: &Module, function: u32, over: usize) -> bool
+        requires some { 0 < length self.now.frames }
+        requires over { over ≤ length (operands_of self.now) }
+        ensures { (place : Position) → result ≡ has_room (in_frame (with_operands over []) (thread_at «module».now place self.now)) (further_locals «module».now function) }
+    {
+        let zeros = further_locals(module, function);
+        let values = self.values.len() - over;
+        self.frames.len() < MOST_FRAMES && zeros <= MOST_VALUES - values
     }
 
     /// The local of that index, of the innermost function.

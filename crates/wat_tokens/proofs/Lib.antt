@@ -1,0 +1,4 @@
+pub mod EscapeLemmas
+pub mod CommentLemmas
+pub mod StringLemmas
+pub mod TokenLemmas
