@@ -24,3 +24,11 @@ Loads bytes (Err Unlinked) = Links bytes (Err Unlinked)
 Loads bytes (Err SegmentOutside) = Links bytes (Err SegmentOutside)
 Loads bytes (Err NotYet) = Links bytes (Err NotYet)
 Loads bytes (Err Memory) = AreWithin bytes
+
+-- bytes load as one program
+abbrev pub LoadAsOne : Type 0
+LoadAsOne = (bytes : List ℕ) (p q : Program) → Loads bytes (Ok p) → Loads bytes (Ok q) → p ≡ q
+
+-- and bytes that load as a program have no fault
+abbrev pub LoadOrFail : Type 0
+LoadOrFail = (bytes : List ℕ) (program : Program) (fault : LoadFault) → Loads bytes (Ok program) → Loads bytes (Err fault) → fault ≡ Memory

@@ -38,6 +38,10 @@ thread_cmp_exact a b e = exact_pairs nat_cmp nat_cmp exact_unsigned exact_unsign
 
 -- ---- a value that passes a test stands at a key
 
+later : (a b : Bool) → b ≡ true → (a || b) ≡ true
+later true b e = refl
+later false b e = e
+
 left : (a b : Bool) → T (a && b) → T a
 left true b p = tt
 left false b p = p
@@ -84,6 +88,18 @@ module _ {K X : Type 0} {R : K → K → Ordering} (o : IsTotalOrder R) (p : X �
   pub found_where : (m : FinMap R X) → list_any p (values m) ≡ true → (k : K) × (v : X) × (get m k ≡ Some v) × (p v ≡ true)
   found_where m any =
       let found = found_among (entries m) (entries_sorted m) any in (found.0, found.1, get-entries m found.0 ∙ found.2, found.3)
+
+-- and one that stands at a key passes for some value
+any_among : {K X : Type 0} (R : K → K → Ordering) (p : X → Bool) (q : K) (v : X) (es : List (K × X)) → find R q es ≡ Some v → p v ≡ true → list_any p (map (λ e. e.1) es) ≡ true
+any_among R p q v [] found passes = cc
+any_among R p q v (e ∷ es) found passes =
+    elim (eq_by_cmp R q e.0) as (λ b. cond b (Some e.1) (find R q es) ≡ Some v → (p e.1 || list_any p (map (λ f. f.1) es)) ≡ true) [
+      | true ↦ λ is. let here : p e.1 ≡ true = (let same : e.1 ≡ v = cc in ap p same ∙ passes) in ap (λ b. b || list_any p (map (λ f. f.1) es)) here
+      | false ↦ λ is. later (p e.1) _ (any_among R p q v es is passes)
+    ] found
+
+pub any_value : {K X : Type 0} {R : K → K → Ordering} (p : X → Bool) (m : FinMap R X) (q : K) (v : X) → get m q ≡ Some v → p v ≡ true → list_any p (values m) ≡ true
+any_value {R = R} p m q v at passes = any_among R p q v (entries m) (sym (get-entries m q) ∙ at) passes
 
 -- ---- a map with each value changed
 

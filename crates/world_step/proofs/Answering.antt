@@ -21,10 +21,15 @@ use Rattle.kernel_core.specs.Ends.{answer_end, answer_gone, answer_return, answe
 use Rattle.kernel_core.specs.Kernel.{Kernel}
 use Rattle.kernel_core.specs.Rows.{Answered, risen, replied, refused, with_thread, in_order, unless_refused}
 use Rattle.kernel_core.specs.Threads.{Ended}
+use Rattle.world_step.specs.Pipes.{through}
 
--- a reply; the end of the process; the end of the thread; or none for a thread that isn't there
+-- a place that is no pipe
+abbrev pub IsElsewhere : Place → Type 0
+IsElsewhere place = (pipe : ℕ) (bytes : List ℕ) → through pipe place bytes ≡ []
+
+-- a reply, which moves nothing through a pipe yet; the end of the process; the end of the thread; or none for a thread that isn't there
 pub data Shape (kernel : Kernel) (pid tid : ℕ) (given : Answered) : Type 0 where
-  Replies : (errno : ℕ) (bytes : List ℕ) (place : Place) → given ≡ replied kernel pid tid errno bytes place → Shape kernel pid tid given
+  Replies : (errno : ℕ) (bytes : List ℕ) (place : Place) → IsElsewhere place → given ≡ replied kernel pid tid errno bytes place → Shape kernel pid tid given
   Ends : (end : End) → given ≡ answer_end kernel pid tid end → Shape kernel pid tid given
   EndsThread : given ≡ record { answer = plain (EndedOutcome false); kernel = with_thread kernel pid tid Ended } → Shape kernel pid tid given
   Goes : given ≡ answer_gone kernel pid tid → Shape kernel pid tid given
@@ -46,8 +51,8 @@ shaped_if : (kernel : Kernel) (pid tid : ℕ) (b : Bool) {x y : Option Answered}
 shaped_if kernel pid tid true p q = p
 shaped_if kernel pid tid false p q = q
 
-shaped_reply : (kernel : Kernel) (pid tid errno : ℕ) (bytes : List ℕ) (place : Place) → Shaped kernel pid tid (Some (replied kernel pid tid errno bytes place))
-shaped_reply kernel pid tid errno bytes place = shaped_here kernel pid tid (replied kernel pid tid errno bytes place) (Replies errno bytes place refl)
+shaped_reply : (kernel : Kernel) (pid tid errno : ℕ) (bytes : List ℕ) (place : Place) → IsElsewhere place → Shaped kernel pid tid (Some (replied kernel pid tid errno bytes place))
+shaped_reply kernel pid tid errno bytes place elsewhere = shaped_here kernel pid tid (replied kernel pid tid errno bytes place) (Replies errno bytes place elsewhere refl)
 
 shaped_end : (kernel : Kernel) (pid tid : ℕ) (end : End) → Shaped kernel pid tid (Some (answer_end kernel pid tid end))
 shaped_end kernel pid tid end = shaped_here kernel pid tid (answer_end kernel pid tid end) (Ends end refl)
@@ -70,12 +75,12 @@ return_shape kernel pid tid request =
 
 shaped_row : {Z : Type 0} (kernel : Kernel) (pid tid : ℕ) (judged : Result Z ℕ) (does : Z → Option Answered) → ((z : Z) → Shaped kernel pid tid (does z)) → Shaped kernel pid tid (unless_refused kernel pid tid judged does)
 shaped_row kernel pid tid (Ok z) does shaped = shaped z
-shaped_row kernel pid tid (Err errno) does shaped = shaped_here kernel pid tid (refused kernel pid tid errno) (Replies errno [] Nowhere refl)
+shaped_row kernel pid tid (Err errno) does shaped = shaped_here kernel pid tid (refused kernel pid tid errno) (Replies errno [] Nowhere (λ pipe bytes. refl) refl)
 
 shaped_write : (kernel : Kernel) (pid tid : ℕ) (request : Request) (kind : Kind) → Shaped kernel pid tid (written kernel pid tid request kind)
 shaped_write kernel pid tid request Input = shaped_none kernel pid tid
-shaped_write kernel pid tid request Output = shaped_reply kernel pid tid 0 request.one OutputPlace
-shaped_write kernel pid tid request Error = shaped_reply kernel pid tid 0 request.one ErrorPlace
+shaped_write kernel pid tid request Output = shaped_reply kernel pid tid 0 request.one OutputPlace (λ pipe bytes. refl)
+shaped_write kernel pid tid request Error = shaped_reply kernel pid tid 0 request.one ErrorPlace (λ pipe bytes. refl)
 shaped_write kernel pid tid request (File node) = shaped_none kernel pid tid
 shaped_write kernel pid tid request (Dir node) = shaped_none kernel pid tid
 shaped_write kernel pid tid request (PipeRead pipe) = shaped_none kernel pid tid
@@ -91,11 +96,11 @@ shaped_fd_write kernel pid tid request =
 shaped_call : (kernel : Kernel) (pid tid : ℕ) (request : Request) → Shaped kernel pid tid (answer_call kernel pid tid request)
 shaped_call kernel pid tid request =
     shaped_if kernel pid tid (request.call == no_call) (shaped_here kernel pid tid (answer_gone kernel pid tid) (Goes refl))
-    (shaped_if kernel pid tid (request.call == spent) (shaped_reply kernel pid tid 0 [] Nowhere)
+    (shaped_if kernel pid tid (request.call == spent) (shaped_reply kernel pid tid 0 [] Nowhere (λ pipe bytes. refl))
     (shaped_if kernel pid tid (request.call == out_of_fuel) (shaped_end kernel pid tid (Killed xcpu))
     (shaped_if kernel pid tid (request.call == trapped) (shaped_end kernel pid tid (Killed abrt))
     (shaped_if kernel pid tid (request.call == last_return) (shaped_here kernel pid tid (answer_return kernel pid tid request) (return_shape kernel pid tid request))
-    (shaped_if kernel pid tid (request.call == nosys_call) (shaped_reply kernel pid tid (errno_number Nosys) [] Nowhere)
+    (shaped_if kernel pid tid (request.call == nosys_call) (shaped_reply kernel pid tid (errno_number Nosys) [] Nowhere (λ pipe bytes. refl))
     (shaped_if kernel pid tid (request.call == fd_write) (shaped_fd_write kernel pid tid request)
     (shaped_if kernel pid tid (request.call == proc_exit) (shaped_end kernel pid tid (Exited (slice_index request.words 0)))
     (shaped_none kernel pid tid))))))))

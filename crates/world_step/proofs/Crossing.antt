@@ -6,7 +6,8 @@ use Rattle.std.specs.FinMap.{get, insert, nat_cmp-IsAntisymmetric}
 use Rattle.std.proofs.lemmas.Cmp.{nat_cmp_total}
 use Rattle.fork_exec.specs.Process.{Process}
 use Rattle.kernel_ask.specs.Answer.{Answer}
-use Rattle.kernel_core.specs.Kernel.{lives}
+use Rattle.kernel_core.specs.Kernel.{Kernel, lives}
+use Rattle.kernel_core.specs.Rows.{Answered, risen}
 use Rattle.kernel_core.proofs.Maps.{get-insert_same, get-insert_other}
 use Rattle.fork_exec.specs.Copies.{fresh}
 use Rattle.instance.specs.Program.{Program}
@@ -24,6 +25,7 @@ use Rattle.wx_types.specs.declared.entries.Entry.{Entry}
 use Rattle.world_step.specs.Leads.{Leads, TakesTurn, IsGone, Turn, Gone, told_by}
 use Rattle.world_step.specs.Stops.{IsStop, TellsGone}
 use Rattle.world_step.specs.World.{World}
+use Rattle.world_step.proofs.Answering.{Shape, Replies, Ends, EndsThread, Goes, answer_shape}
 use Rattle.world_step.proofs.Doomed.{DoomedAreDead, Turned, turned, get-retained}
 use Rattle.world_step.proofs.Lines.{before_turn}
 
@@ -150,3 +152,18 @@ crosses world next entry (Gone running gone leads) dead q = gone_crosses world n
 pub slice_same : (world next : World) (entry : Entry) → Leads world entry next → next.slice ≡ world.slice
 slice_same world next entry (Turn running turn leads) = (turned world next entry turn leads).slice
 slice_same world next entry (Gone running gone leads) = ap (λ (w : World). w.slice) leads
+
+-- ---- no entry makes a process yet
+
+shape_makes_none : (kernel : Kernel) (pid tid : ℕ) (given : Answered) → Shape kernel pid tid given → (q : ℕ) → makes given.answer.outcome q ≡ false
+shape_makes_none kernel pid tid given (Replies errno bytes place elsewhere e) q = ap (λ (x : Answered). makes x.answer.outcome q) e
+shape_makes_none kernel pid tid given (Ends end e) q = ap (λ (x : Answered). makes x.answer.outcome q) e
+shape_makes_none kernel pid tid given (EndsThread e) q = ap (λ (x : Answered). makes x.answer.outcome q) e
+shape_makes_none kernel pid tid given (Goes e) q = ap (λ (x : Answered). makes x.answer.outcome q) e
+
+pub makes_none : (world next : World) (entry : Entry) (leads : Leads world entry next) (q : ℕ) → makes (told_by leads).entry.outcome q ≡ false
+makes_none world next entry (Turn running turn leads) q =
+    let given : Answered = record { answer = turn.answer; kernel = turn.answered } in
+    ap (λ o. makes o q) turn.outcome
+    ∙ shape_makes_none (risen world.kernel) entry.pid entry.tid given (answer_shape world.kernel entry.pid entry.tid turn.request given turn.answers) q
+makes_none world next entry (Gone running gone leads) q = ap (λ (e : Entry). makes e.outcome q) gone.tells

@@ -78,7 +78,7 @@ ended_not_doomed e = cc
 
 -- a thread is doomed after an answer only where it was before, or where its process ended
 by_shape : (kernel : Kernel) (pid tid : ℕ) (given : Answered) → Shape kernel pid tid given → (a b : ℕ) → IsDoomed given.kernel a b → IsDoomed kernel a b ⊎ (lives given.kernel a ≡ false)
-by_shape kernel pid tid given (Replies errno bytes place e) a b is =
+by_shape kernel pid tid given (Replies errno bytes place elsewhere e) a b is =
     inl (insert_doomed kernel.threads (pid, tid) (a, b) (Handed Fresh) (λ h. cc) (subst (λ (x : Answered). IsDoomed x.kernel a b) e is))
 by_shape kernel pid tid given (Ends end e) a b is =
     elim (doomed_there (a == pid) (get (insert kernel.threads (pid, tid) Ended) (a, b)) (sym (get-mapped thread_cmp_total thread_cmp_exact _ (insert kernel.threads (pid, tid) Ended) (a, b)) ∙ subst (λ (x : Answered). IsDoomed x.kernel a b) e is)) [
@@ -92,7 +92,7 @@ by_shape kernel pid tid given (Goes e) a b is =
 
 -- no answer makes a process yet
 makes_none : (kernel : Kernel) (pid tid : ℕ) (given : Answered) → Shape kernel pid tid given → (stopped : Process) (request : Request) → made stopped tid request given.answer ≡ None
-makes_none kernel pid tid given (Replies errno bytes place e) stopped request = ap (λ (x : Answered). made stopped tid request x.answer) e
+makes_none kernel pid tid given (Replies errno bytes place elsewhere e) stopped request = ap (λ (x : Answered). made stopped tid request x.answer) e
 makes_none kernel pid tid given (Ends end e) stopped request = ap (λ (x : Answered). made stopped tid request x.answer) e
 makes_none kernel pid tid given (EndsThread e) stopped request = ap (λ (x : Answered). made stopped tid request x.answer) e
 makes_none kernel pid tid given (Goes e) stopped request = ap (λ (x : Answered). made stopped tid request x.answer) e

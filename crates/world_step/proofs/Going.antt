@@ -1,13 +1,13 @@
 -- Runs, put together and cut.
-use Rattle.std.proofs.Common.{[], ◌∷◌, refl, subst}
+use Rattle.std.proofs.Common.{List, [], ◌∷◌, refl, subst}
 use Rattle.std.proofs.lemmas.Cmp.{nat_cmp_total}
 use Rattle.kernel_core.specs.Threads.{Fresh, Handed}
 use Rattle.kernel_core.proofs.Maps.{get-insert_same, thread_cmp_total}
 use Rattle.wx_types.specs.declared.entries.Entry.{Entry}
-use Rattle.world_step.specs.Boot.{boot_world, first_process}
-use Rattle.world_step.specs.Laws.{RunsBegin, RunsGoOn, RunsAreCut, RunsReply}
+use Rattle.world_step.specs.Boot.{Boot, boot_world, first_process}
+use Rattle.world_step.specs.Laws.{RunsBegin, RunsGoOn, RunsAreCut}
 use Rattle.world_step.specs.Leads.{Leads, Replies, Turn, Gone}
-use Rattle.world_step.specs.Run.{RunFrom, RunsTo}
+use Rattle.world_step.specs.Run.{EachReply, Run, RunFrom, RunsTo}
 use Rattle.world_step.specs.World.{World}
 use Rattle.std.proofs.Common.{inl, inr}
 
@@ -32,7 +32,7 @@ replied : {world : World} {entry : Entry} {next : World} → Leads world entry n
 replied (Turn running turn leads) = inl turn
 replied (Gone running gone leads) = inr gone
 
-pub each_reply : RunsReply
+pub each_reply : (boot : Boot) (entries : List Entry) → Run boot entries → EachReply boot entries
 each_reply boot entries run before after entry e =
     let whole : RunsTo boot entries run.0 = run.1 in
     let cut = is_cut (boot_world boot whole.program) run.0 before (entry ∷ after) (subst (λ es. RunFrom (boot_world boot whole.program) es run.0) e whole.run) in

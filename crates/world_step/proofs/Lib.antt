@@ -6,4 +6,6 @@ pub mod Doomed
 pub mod Lines
 pub mod Crossing
 pub mod Lineages
+pub mod Journals
+pub mod OneFile
 mod Examples

@@ -1,21 +1,21 @@
 -- Each live process is the one to which its lineage leads, and stops stand in their order.
 use Rattle.std.proofs.Common.{◌≡◌, ℕ, true, false, Bool, List, [], ◌∷◌, Option, Some, None, cond, inl, inr, refl, sym, ap, subst, ◌∙◌}
-use Rattle.std.specs.Prelude.{if◌then◌else◌}
+use Rattle.std.specs.Prelude.{if◌then◌else◌, ◌==◌, ◌||◌, filter}
 use Rattle.std.specs.Ordering.{nat_cmp, eq_by_cmp}
 use Rattle.std.specs.FinMap.{get, empty, get-insert, get-empty}
 use Rattle.std.proofs.lemmas.Cmp.{nat_cmp_total}
 use Rattle.fork_exec.specs.Process.{Process}
 use Rattle.kernel_core.specs.Threads.{ThreadState, Handed, Fresh, Doomed, thread_cmp}
 use Rattle.kernel_core.proofs.Maps.{thread_cmp_total}
-use Rattle.process.specs.Lineage.{Told, ancestor, lineage, state_of, after_told}
+use Rattle.process.specs.Lineage.{Told, ancestor, lineage, state_of, after_told, is_on_line, makes}
 use Rattle.wx_types.specs.declared.entries.Entry.{Entry}
 use Rattle.world_step.specs.Boot.{Boot, boot_world, first_process}
-use Rattle.world_step.specs.Laws.{LivesByLineage, StopsAreInOrder}
+use Rattle.world_step.specs.Laws.{LivesByLineage}
 use Rattle.world_step.specs.Leads.{told_by}
 use Rattle.world_step.specs.Run.{RunFrom, RunsTo, told}
-use Rattle.world_step.specs.Stops.{AreStops, AllGone}
+use Rattle.world_step.specs.Stops.{InOrder, bears, AreStops, AllGone}
 use Rattle.world_step.specs.World.{World}
-use Rattle.world_step.proofs.Crossing.{Crossing, Alive, Dead, Passed, crosses, slice_same}
+use Rattle.world_step.proofs.Crossing.{Crossing, Alive, Dead, Passed, crosses, slice_same, makes_none}
 use Rattle.world_step.proofs.Doomed.{DoomedAreDead, stays_dead}
 use Rattle.world_step.proofs.Lines.{on_line, off_line, off_ancestor, same_ancestor}
 
@@ -137,8 +137,8 @@ stops world last (e ∷ es) run dead pid start at =
     (λ process there. subst (λ n. AreStops n process (lineage turns pid) pid) (slice_same world next e run.1) (stops next last es run.2 later pid process there))
     (all_gone next last es run.2 later pid) start at
 
-pub in_order : StopsAreInOrder
-in_order boot entries world runs pid =
+stops_in_order : (boot : Boot) (entries : List Entry) (world : World) (runs : RunsTo boot entries world) (pid : ℕ) → AreStops boot.slice (first_process boot runs.program) (lineage (told _ entries world runs.run) pid) pid
+stops_in_order boot entries world runs pid =
     let first : World = boot_world boot runs.program in
     let dead = begins_dead boot entries world runs in
     let turns : List Told = told first entries world runs.run in
@@ -148,3 +148,37 @@ in_order boot entries world runs pid =
           subst (λ (p : Process). AreStops boot.slice p (lineage turns pid) pid) (only_first boot entries world runs (ancestor turns pid) start e)
           (stops first world entries runs.run dead pid start e)
     ] refl
+
+-- ---- no turn is left out
+
+none_filtered : (b : Bool) (turn : Told) (turns rest : List Told) → b ≡ false → turns ≡ rest → turns ≡ (if b then turn ∷ rest else rest)
+none_filtered true turn turns rest off e = cc
+none_filtered false turn turns rest off e = e
+
+-- where no turn makes a process, each process has its own turns and no others
+all_own : (world last : World) (entries : List Entry) (run : RunFrom world entries last) (pid : ℕ) → ancestor (told world entries last run) pid ≡ pid
+all_own world last [] run pid = refl
+all_own world last (e ∷ es) run pid =
+    let rest = all_own run.0 last es run.2 pid in
+    ap (λ b. if b then (told_by run.1).entry.pid else ancestor (told run.0 es last run.2) pid) (makes_none world run.0 e run.1 (ancestor (told run.0 es last run.2) pid)) ∙ rest
+
+off_here : (turn : Told) (pid : ℕ) → is_on_line turn pid ≡ false → bears pid turn ≡ false
+off_here turn pid off =
+    elim (turn.entry.pid == pid) as (λ b. (b || makes turn.entry.outcome pid) ≡ false → b ≡ false) [ true ↦ λ is. cc | false ↦ λ is. refl ] off
+
+one_more : (turn : Told) (turns : List Told) (pid : ℕ) → ancestor turns pid ≡ pid → filter (bears pid) (lineage turns pid) ≡ filter (bears pid) turns → filter (bears pid) (lineage (turn ∷ turns) pid) ≡ filter (bears pid) (turn ∷ turns)
+one_more turn turns pid own rest =
+    elim (is_on_line turn (ancestor turns pid)) as (λ b. is_on_line turn (ancestor turns pid) ≡ b → filter (bears pid) (if b then turn ∷ lineage turns pid else lineage turns pid) ≡ filter (bears pid) (turn ∷ turns)) [
+      | true ↦ λ on. ap (λ xs. if bears pid turn then turn ∷ xs else xs) rest
+      | false ↦ λ off. none_filtered (bears pid turn) turn _ _ (off_here turn pid (ap (is_on_line turn) (sym own) ∙ off)) rest
+    ] refl
+
+whole : (world last : World) (entries : List Entry) (run : RunFrom world entries last) (pid : ℕ) → filter (bears pid) (lineage (told world entries last run) pid) ≡ filter (bears pid) (told world entries last run)
+whole world last [] run pid = refl
+whole world last (e ∷ es) run pid = one_more (told_by run.1) (told run.0 es last run.2) pid (all_own run.0 last es run.2 pid) (whole run.0 last es run.2 pid)
+
+pub in_order : (boot : Boot) (entries : List Entry) → InOrder boot entries
+in_order boot entries world runs pid = record {
+  stops = stops_in_order boot entries world runs pid;
+  whole = whole (boot_world boot runs.program) world entries runs.run pid;
+}

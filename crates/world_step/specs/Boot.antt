@@ -1,8 +1,9 @@
 -- What a run begins with.
 use Rattle.std.specs.Prelude.{◌≡◌, ℕ, List, [], ◌∷◌, codes, Result, Ok}
 use Rattle.std.specs.FinMap.{empty, insert}
-use Rattle.file_tree.specs.FileTree.{FileTree, root}
+use Rattle.file_tree.specs.FileTree.{FileTree, root, only_root}
 use Rattle.file_tree.specs.Files.{bytes_at}
+use Rattle.file_tree.specs.Names.{added}
 use Rattle.file_tree.specs.Walk.{and_then, lookup}
 use Rattle.fork_exec.specs.Process.{Process}
 use Rattle.fork_exec.specs.Copies.{fresh}
@@ -10,6 +11,7 @@ use Rattle.instance.specs.Program.{Program}
 use Rattle.instance.specs.Loads.{Loads}
 use Rattle.kernel_core.specs.Beginning.{first_kernel}
 use Rattle.path_walk.specs.Paths.{split_path}
+use Rattle.tree_nodes.specs.declared.node.Content.TheVariants.{File}
 use Rattle.world_step.specs.World.{World}
 use Rattle.wx_types.specs.declared.errors.Errno.{Errno}
 
@@ -46,3 +48,7 @@ boot_world boot program = record {
   processes = insert empty 1 (first_process boot program);
   slice = boot.slice;
 }
+
+-- the root with one file of this name
+abbrev pub one_file : List ℕ → List ℕ → FileTree
+one_file name bytes = (added only_root root name (File bytes)).1

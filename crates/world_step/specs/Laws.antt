@@ -1,5 +1,5 @@
 -- What holds in every run.
-use Rattle.std.specs.Prelude.{◌≡◌, ℕ, List, [], ◌∷◌, ◌++◌, Some}
+use Rattle.std.specs.Prelude.{◌≡◌, ℕ, List, [], ◌∷◌, ◌++◌, codes, Some, Ok}
 use Rattle.std.specs.FinMap.{get}
 use Rattle.fork_exec.specs.Process.{Process}
 use Rattle.kernel_core.specs.Ending.{Open}
@@ -7,10 +7,10 @@ use Rattle.kernel_core.specs.Kernel.{IsHanded}
 use Rattle.kernel_core.specs.Readiness.{SomeReady}
 use Rattle.instance.specs.Program.{Program}
 use Rattle.process.specs.Lineage.{lineage, state_of}
-use Rattle.world_step.specs.Boot.{Boot, first_process, boot_world}
+use Rattle.world_step.specs.Boot.{Boot, first_process, boot_world, file_at, one_file}
 use Rattle.world_step.specs.Leads.{Leads}
-use Rattle.world_step.specs.Run.{RunFrom, RunsTo, Run, EachReply, told}
-use Rattle.world_step.specs.Stops.{InOrder}
+use Rattle.world_step.specs.Run.{RunFrom, RunsTo, Run, told}
+use Rattle.world_step.specs.Journal.{IsJournal}
 use Rattle.world_step.specs.World.{World}
 use Rattle.wx_types.specs.declared.entries.Entry.{Entry}
 
@@ -63,9 +63,14 @@ LivesByLineage =
     → get world.processes pid ≡ Some process
     → state_of (first_process boot runs.program) (lineage (told _ entries world runs.run) pid) pid ≡ Some process
 
--- in each run the stops stand in order, and each entry is the model's
-abbrev pub StopsAreInOrder : Type 0
-StopsAreInOrder = (boot : Boot) (entries : List Entry) → InOrder boot entries
+-- a run is all that a journal is
+abbrev pub RunsAreJournals : Type 0
+RunsAreJournals = (boot : Boot) (entries : List Entry) → Run boot entries → IsJournal boot entries
 
-abbrev pub RunsReply : Type 0
-RunsReply = (boot : Boot) (entries : List Entry) → Run boot entries → EachReply boot entries
+-- a boot and its entries lead to one world
+abbrev pub BootsLeadToOne : Type 0
+BootsLeadToOne = (boot : Boot) (entries : List Entry) (world world' : World) → RunsTo boot entries world → RunsTo boot entries world' → world ≡ world'
+
+-- the one file of a tree is at its path
+abbrev pub OneFileIsThere : Type 0
+OneFileIsThere = (bytes : List ℕ) → file_at (one_file (codes "program") bytes) (codes "/program") ≡ Ok bytes

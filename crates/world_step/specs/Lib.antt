@@ -6,4 +6,5 @@ pub mod Run
 pub mod Stops
 pub mod Written
 pub mod Pipes
+pub mod Journal
 pub mod Laws

@@ -1,5 +1,5 @@
 -- The calls of each guest thread are answered once and in their order.
-use Rattle.std.specs.Prelude.{◌≡◌, ◌⊎◌, ℕ, List, [], ◌∷◌, Some, None}
+use Rattle.std.specs.Prelude.{◌≡◌, ◌⊎◌, ℕ, Bool, ◌==◌, List, [], ◌∷◌, filter, Some, None}
 use Rattle.std.specs.FinMap.{get}
 use Rattle.fork_exec.specs.Process.{Process}
 use Rattle.process.specs.Asked.{Asked}
@@ -36,8 +36,17 @@ AreStops slice process (turn ∷ turns) pid =
     (IsStop slice process turn ⊎ IsLate process turn turns)
     × ((next : Process) → after_told process turn (ancestor turns pid) ≡ Some next → AreStops slice next turns pid)
 
--- Each process's lineage, in which stand all entries that bear it, is made of such turns: none is left out, and none comes twice.
+-- the turns that bear a process
+abbrev pub bears : ℕ → Told → Bool
+bears pid turn = turn.entry.pid == pid
+
+-- A process's lineage is made of such turns, and has each turn that bears the process: none is left out, and none comes twice.
+pub record IsOrdered (slice : ℕ) (first : Process) (turns : List Told) (pid : ℕ) : Type 0 where
+  pub stops : AreStops slice first (lineage turns pid) pid
+  pub whole : filter (bears pid) (lineage turns pid) ≡ filter (bears pid) turns
+
+-- so it is for each process of a run
 abbrev pub InOrder : Boot → List Entry → Type 0
 InOrder boot entries =
     (world : World) (runs : RunsTo boot entries world) (pid : ℕ)
-    → AreStops boot.slice (first_process boot runs.program) (lineage (told _ entries world runs.run) pid) pid
+    → IsOrdered boot.slice (first_process boot runs.program) (told _ entries world runs.run) pid

@@ -1,7 +1,7 @@
 //! The world of all processes, and how an entry of the history leads from one world to the next.
 #![tactic(auto)]
 
-ghost use Rattle.world_step.specs.Laws.{RunsBegin, RunsGoOn, RunsAreCut, EntriesAreDetermined, RunsLeadToOne, RunsStayReady, LivesByLineage, StopsAreInOrder, RunsReply};
+ghost use Rattle.world_step.specs.Laws.{RunsBegin, RunsGoOn, RunsAreCut, EntriesAreDetermined, RunsLeadToOne, RunsStayReady, LivesByLineage, RunsAreJournals, BootsLeadToOne, OneFileIsThere};
 
 /// A run begins open, with thread 1 of process 1 handed out; it goes on by one entry at its end, and is cut anywhere.
 pub fn runs_go_on()
@@ -14,6 +14,7 @@ pub fn runs_go_on()
 pub fn histories_determine_worlds()
     ensures entry { EntriesAreDetermined }
     ensures world { RunsLeadToOne }
+    ensures from_boot { BootsLeadToOne }
 {}
 
 /// While a run is open, some thread is handed out, or was ended while it was.
@@ -26,8 +27,13 @@ pub fn processes_live_by_lineage()
     ensures { LivesByLineage }
 {}
 
-/// Each entry is the model's, and each thread's stops stand in their order.
-pub fn stops_are_in_order()
-    ensures order { StopsAreInOrder }
-    ensures replies { RunsReply }
+/// A run is all that a journal is: each entry is the model's, each thread's stops stand in their order, and what was read from a
+/// pipe is a prefix of what was written to it.
+pub fn runs_are_journals()
+    ensures { RunsAreJournals }
+{}
+
+/// The file of a tree that has one file is at its path.
+pub fn one_file_is_there()
+    ensures { OneFileIsThere }
 {}
