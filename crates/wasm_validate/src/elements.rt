@@ -59,7 +59,7 @@ fn instruction_offset(module: &Module, imported: usize, instr: &Instr) -> u64
 }
 
 /// The offset of a segment: a constant, or the value of a global, where so many globals are imported.
-fn offset_value(module: &Module, imported: usize, offset: &Body) -> u64
+pub fn offset_value(module: &Module, imported: usize, offset: &Body) -> u64
     requires { imported ≡ length (globals_of «module».now.imports) }
     ensures { result ≡ offset_value «module».now offset.now }
 {
