@@ -385,13 +385,14 @@ do("mkdir 1 d", "create 1 f", "create 1 d", "create 1 f", "mkdir 1 d", "mkdir 1 
 do("mkdir 1 .", "create 1 .", "mkdir 1 ..", "create 1 ..", "mkdir 1 d/.", "create 1 d/.", "mkdir 1 d/..", "create 1 d/")
 do("create 1 f/", "mkdir 1 f/", "create 1 x/", "create 1 x/.", "mkdir 1 x/", "mkdir 1 y/.", "create 1 z/y", "mkdir 1 z/y")
 do("create 1 f/y", "mkdir 1 f/y", "create 1 z/..", "mkdir 1 z/..", "create 2 g", "mkdir 2 h", "list 1", "list 2")
+do("create 1 z/y/", "create 1 f/y/", "create 9 x", "mkdir 9 x", "create 9 x/", "create 3 x", "mkdir 3 x", "create 3 x/", "mkdir 1 f/..", "create 1 f/..")
 
 title("Removed directories")
 new()
 do("mkdir 1 a", "mkdir 1 a/b", "hold 3", "rmdir 1 a/b", "stat 3", "lookup 3 .", "lookup 3 ..", "lookup 3 /", "lookup 3 x")
 do("find 3 x", "create 3 x", "mkdir 3 x", "create 3 x/", "create 3 .", "mkdir 3 .", "mkdir 3 ..", "unlink 3 x", "rmdir 3 x")
 do("rmdir 3 .", "rmdir 3 ..", "unlink 3 .", "list 3", "path 3", "create 1 f", "rename 1 f 3 f", "rename 3 x 1 y", "rename 3 x 3 y")
-do("rename 1 f 3 .", "rename 1 f 3 ..", "rename 1 x 3 y", "rename 1 a 3 a", "mkdir 3 x/y", "create 3 ../x", "lookup 3 ../f")
+do("rename 1 f 3 .", "rename 1 f 3 ..", "rename 3 . 1 y", "rename 3 .. 1 y", "rename 3 .. 3 x/y", "rename 1 x 3 y", "rename 1 a 3 a", "mkdir 3 x/y", "create 3 ../x", "lookup 3 ../f")
 do("release 3", "stat 3", "lookup 3 .", "path 3", "list 3", "mkdir 1 c")
 
 title("Unlinking")
@@ -422,6 +423,7 @@ do("rename 1 f 1 f", "rename 1 a 1 a", "rename 1 a/ 1 b/../a", "rename 1 f 2 ../
 # 4: into itself or below
 do("rename 1 a 1 a/x", "rename 1 a 1 a/c/x", "rename 1 a 1 a/c", "rename 1 a/c 1 a/c/x", "rename 1 a 2 x", "rename 1 a/ 6 x/")
 # 5, 6, 7: kinds that differ, a directory with entries
+do("create 1 a/k", "create 1 a/c/l", "rename 1 a 1 a/k", "rename 1 a 1 a/c", "rename 1 a 1 a/k/", "rename 1 a 1 a/k/x", "unlink 1 a/c/l", "unlink 1 a/k")
 do("rename 1 a 1 f", "rename 1 f 1 a", "rename 1 f 1 b", "rename 1 f 1 e", "rename 1 a 1 b", "rename 1 e 1 b", "rename 1 a/c 1 a", "rename 1 b/h 1 b")
 # 8: it moves, and what was there is replaced
 do("list 1", "rename 1 f 1 g", "list 1", "stat 5", "rename 1 a 1 e", "list 1", "list 2", "path 6", "lookup 6 ..", "rename 1 g 1 b/k", "list 3", "path 4")
@@ -445,19 +447,29 @@ new()
 do("create 1 f", "size 2 67108864", "stat 2", "size 2 67108865", "write 2 67108864 x", "write 2 67108863 x", "write 2 67108863 xy", "read 2 67108862 9")
 do("write 2 18446744073709551615 x", "write 2 9223372036854775807 xy", "size 2 18446744073709551615", "stat 2")
 do("create 1 g", "write 3 0 x", "size 3 1", "size 3 0", "write 3 67108864 x", "size 3 67108865", "write 3 0 -", "size 2 67108863", "write 3 0 x", "write 3 1 x", "size 3 2")
+# a directory and a node that isn't there, where no byte is left
+do("write 3 0 x", "mkdir 1 d", "write 4 0 x", "size 4 1", "write 9 0 x", "size 9 1", "read 4 0 1", "rmdir 1 d", "write 3 0 -")
 # an unlinked file counts while it is held
 do("hold 2", "unlink 1 f", "write 3 1 x", "release 2", "write 3 1 x", "stat 3", "size 3 67108864", "size 3 0")
-do("create 1 h", "write 4 0 @16777216:ab", "stat 4", "read 4 33554430 4", "write 4 33554432 @16777216:cd", "stat 4", "write 4 67108864 x", "write 3 0 x")
+do("create 1 h", "write 5 0 @16777216:ab", "stat 5", "read 5 33554430 4", "write 5 33554432 @16777216:cd", "stat 5", "write 5 67108864 x", "write 3 0 x")
 
 title("Limits of names")
 new()
 do("create 1 @255:a", "create 1 @256:a", "mkdir 1 @255:b", "lookup 1 @255:b|/|@255:a", "create 1 @255:b|/|@255:c", "lookup 1 /|@255:b|/|@255:c")
-do("deep 1 512", "lookup 1 @512:d/", "lookup 1 @511:d/|d", "lookup 1 @512:d/|d", "lookup 1 @511:d/|x", "lookup 516 @512:../", "path 6", "rmdir 1 @512:d/", "rmdir 1 @511:d/")
+do("deep 1 512", "lookup 1 @512:d/", "lookup 1 @511:d/|d", "lookup 1 @512:d/|d", "lookup 1 @511:d/|x", "lookup 516 @512:../", "path 6")
+# a directory that moves takes what lies in it along, beyond the paths that a call takes
+do("mkdir 1 e", "rename 1 d 1 e/d", "path 516", "lookup 1 e/|@511:d/|d", "lookup 1 e/|@510:d/|d", "lookup 515 d", "lookup 516 ..", "mkdir 516 e", "rename 1 e/d 1 d", "rmdir 516 e")
+do("rmdir 1 @512:d/", "rmdir 1 @511:d/")
 
 title("Limit of nodes")
 new()
 do("mkdir 1 d", "fill 2 16382", "fill 2 1", "create 1 x", "mkdir 1 x", "create 1 d", "create 1 d/", "create 1 x/", "stat 16384", "lookup 1 d/f16381")
+# the other refusals come before
+do("mkdir 1 d", "mkdir 1 d/f0", "mkdir 1 .", "create 1 z/y", "mkdir 1 z/y", "create 1 d/f0/y", "mkdir 1 d/f0/y", "create 1 d/f0/", "mkdir 1 d/f0/", "create 1 .")
 do("hold 3", "unlink 2 f0", "create 1 x", "release 3", "create 1 x", "mkdir 1 y", "unlink 1 x", "mkdir 1 y", "create 1 z", "lookup 1 y", "rename 2 f9 1 f9", "list 1")
+
+new()
+do("mkdir 1 r", "hold 2", "rmdir 1 r", "fill 1 16383", "create 2 x", "mkdir 2 x", "create 2 x/", "create 2 .", "mkdir 2 ..", "create 1 x", "create 1 f0", "release 2", "create 1 x", "create 1 y")
 
 title("Names in the order of their bytes")
 new()

@@ -1,15 +1,14 @@
 -- What is told of a node, and the content of its entry.
-use Rattle.std.proofs.Common.{◌≡◌, ℕ, List, [], ◌∷◌, ◌++◌, Option, Some, None, map, refl, sym, ap, ◌∙◌, append_assoc}
+use Rattle.std.proofs.Common.{◌≡◌, ℕ, List, [], ◌∷◌, ◌++◌, Some, None, map, sym, ap, ◌∙◌, append_assoc}
 use Rattle.std.specs.Option.{option_map_or}
 use Rattle.std.specs.List.{flat_map}
 use Rattle.std.proofs.lemmas.List.Concat.{flat_map-cons}
 use Rattle.file_tree.specs.FileTree.{FileTree}
 use Rattle.file_tree.specs.Listings.{stat}
 use Rattle.file_tree.specs.declared.listing.Stat.{Stat}
-use Rattle.wx_types.specs.declared.requests.NodeKind.{NodeKind}
 use Rattle.wx_types.specs.declared.requests.NodeKind.TheVariants.{File as RegularFile, Dir}
 use Rattle.std.proofs.lemmas.List.{append-nil}
-use Rattle.boot_image.specs.Entries.{Content, Directory, File, magic, bytes_of, entry_bytes}
+use Rattle.boot_image.specs.Entries.{Directory, File, magic, bytes_of, entry_bytes}
 use Rattle.boot_image.specs.Written.{content_of, content_of_kind, first_bytes, entry_of}
 
 module _ (tree : FileTree) (node : ℕ) where

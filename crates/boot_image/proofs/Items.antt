@@ -1,5 +1,5 @@
 -- What stands next in an image: what is read is what was written, and what was written is read again.
-use Rattle.std.proofs.Common.{◌≡◌, ℕ, zero, suc, ◌^◌, ◌<◌, List, [], ◌∷◌, ◌++◌, length, Result, Ok, Err, refl, sym, ap, subst, ◌∙◌, append_assoc}
+use Rattle.std.proofs.Common.{◌≡◌, ℕ, zero, suc, ◌^◌, List, [], ◌∷◌, ◌++◌, Result, Ok, refl, ap, subst, ◌∙◌, append_assoc}
 use Rattle.std.specs.Int.{w16, w32}
 use Rattle.byte_cursor.specs.declared.leb.CursorFault.{CursorFault}
 use Rattle.byte_cursor.specs.ReadNumbers.{and_then}

@@ -5,3 +5,11 @@ pub mod PlainPaths
 pub mod Making
 pub mod Finding
 pub mod Contents
+pub mod Under
+pub mod Splitting
+pub mod PathsOf
+pub mod Growing
+pub mod Counting
+pub mod RoundTrip
+pub mod ShortPaths
+pub mod Once

@@ -1,5 +1,5 @@
 -- What the tree's calls give for an entry.
-use Rattle.std.proofs.Common.{◌≡◌, ℕ, List, Option, Some, None, Result, Ok, Err, refl, sym, ap, ◌∙◌}
+use Rattle.std.proofs.Common.{◌≡◌, ℕ, List, Some, None, Ok, Err, ap, ◌∙◌}
 use Rattle.std.specs.Option.{option_and_then}
 use Rattle.std.specs.Result.{result_ok}
 use Rattle.path_walk.specs.Paths.{PathParts}
@@ -8,7 +8,7 @@ use Rattle.file_tree.specs.Walk.{and_then}
 use Rattle.file_tree.specs.Names.{create, mkdir}
 use Rattle.file_tree.specs.Files.{write_at}
 use Rattle.wx_types.specs.declared.errors.Errno.{Errno}
-use Rattle.boot_image.specs.Entries.{Entry, Content, Directory, File}
+use Rattle.boot_image.specs.Entries.{Content, Directory, File}
 use Rattle.boot_image.specs.Image.{plain_parts, made, with_entry}
 
 pub not_plain : (tree : FileTree) (path : List ℕ) (content : Content) → plain_parts path ≡ None → with_entry tree (record { path = path; content = content }) ≡ None

@@ -1,8 +1,7 @@
 -- Whether bytes are just names, each behind a slash.
-use Rattle.std.proofs.Common.{◌≡◌, ℕ, suc, ◌+◌, ◌<◌, ◌≤◌, Bool, true, false, not, ◌&&◌, ◌||◌, eqb, List, [], ◌∷◌, ◌++◌, length, take, drop, get_or, Option, Some, None, refl, sym, ap, subst, ◌∙◌, append_assoc, drop-cons, add-one, arith}
-use Rattle.std.specs.List.{flat_map, list_any}
+use Rattle.std.proofs.Common.{◌≡◌, ℕ, suc, ◌+◌, ◌<◌, Bool, true, false, not, ◌&&◌, ◌||◌, List, [], ◌∷◌, ◌++◌, length, take, drop, get_or, refl, sym, ap, ◌∙◌, drop-cons, add-one}
+use Rattle.std.specs.List.{list_any}
 use Rattle.std.specs.Str.{bytes_eq}
-use Rattle.std.specs.Prelude.{MatchOption}
 use Rattle.std.proofs.Common.{eq-eqb}
 use Rattle.std.proofs.lemmas.List.{take_at, take-append-drop}
 use Rattle.std.proofs.lemmas.Slice.Eq.{bytes_eq-Decides}
@@ -25,7 +24,7 @@ pub bytes_eq-refl : (a : List ℕ) → bytes_eq a a ≡ true
 bytes_eq-refl [] = refl
 bytes_eq-refl (x ∷ a) = rw (eq-eqb x x refl) (bytes_eq-refl a)
 
-joined-cons : (name : List ℕ) (names : List (List ℕ)) → joined (name ∷ names) ≡ 47 ∷ (name ++ joined names)
+pub joined-cons : (name : List ℕ) (names : List (List ℕ)) → joined (name ∷ names) ≡ 47 ∷ (name ++ joined names)
 joined-cons name names = flat_map-cons (λ (n : List ℕ). 47 ∷ n) name names
 
 never_with_dots : (b : Bool) → (b && false) ≡ false

@@ -1,5 +1,5 @@
 -- What stands next, and the trees that what is left gives.
-use Rattle.std.proofs.Common.{◌≡◌, ◌⊎◌, inl, inr, ℕ, ◌+◌, ◌<◌, List, [], ◌∷◌, ◌++◌, length, Option, Some, None, Result, Ok, Err, refl, sym, ap, subst, ◌∙◌, append_assoc, arith}
+use Rattle.std.proofs.Common.{◌≡◌, ℕ, ◌<◌, List, [], ◌∷◌, ◌++◌, length, Some, None, Result, Ok, Err, refl, sym, ap, subst, ◌∙◌, append_assoc, arith}
 use Rattle.std.specs.List.{flat_map, AllByRecursion}
 use Rattle.std.specs.Option.{option_and_then}
 use Rattle.std.proofs.lemmas.List.{length-append}
@@ -19,10 +19,7 @@ use Rattle.boot_image.specs.Answers.{Means}
 use Rattle.boot_image.specs.Image.{Image, Remains, with_entry, with_entries}
 use Rattle.boot_image.specs.Steps.{IsBytes, SameTrees, GivesNone, Goes, Makes}
 use Rattle.boot_image.proofs.Items.{next_takes, next_again}
-
-chain : {A B : Type 0} (o : Option A) (f : A → Option B) (y : B) → option_and_then f o ≡ Some y → (x : A) × (o ≡ Some x) × (f x ≡ Some y)
-chain None f y e = absurd cc
-chain (Some x) f y e = (x, refl, e)
+use Rattle.boot_image.proofs.Under.{chain}
 
 -- the first entry, and what is left behind it
 record First (bytes : List ℕ) (before after : FileTree) : Type 0 where
@@ -38,7 +35,7 @@ data Begins (bytes : List ℕ) (before after : FileTree) : Type 0 where
   ends : bytes ≡ 0 ∷ [] → before ≡ after → Begins bytes before after
   goes_on : First bytes before after → Begins bytes before after
 
-behind_first : (entry : Entry) (entries : List Entry) → entries_bytes (entry ∷ entries) ≡ entry_bytes entry ++ entries_bytes entries
+pub behind_first : (entry : Entry) (entries : List Entry) → entries_bytes (entry ∷ entries) ≡ entry_bytes entry ++ entries_bytes entries
 behind_first entry entries = ap (λ (b : List ℕ). b ++ 0 ∷ []) (flat_map-cons entry_bytes entry entries) ∙ append_assoc (entry_bytes entry) (flat_map entry_bytes entries) (0 ∷ [])
 
 begins_with : (bytes : List ℕ) (before after : FileTree) (entries : List Entry) → AllByRecursion Fits entries → bytes ≡ entries_bytes entries → with_entries before entries ≡ Some after → Begins bytes before after
@@ -59,7 +56,7 @@ begins : (bytes : List ℕ) (before after : FileTree) → Remains bytes before a
 begins bytes before after remains = begins_with bytes before after remains.entries remains.fit remains.are remains.gives
 
 -- the end stands next in the end
-last_next : (bytes : List ℕ) → bytes ≡ 0 ∷ [] → next_at bytes ≡ Ok (Last, [])
+pub last_next : (bytes : List ℕ) → bytes ≡ 0 ∷ [] → next_at bytes ≡ Ok (Last, [])
 unfolding next_at
 last_next bytes e = ap next_at e
 

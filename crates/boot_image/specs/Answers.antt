@@ -1,5 +1,5 @@
 -- What the reader answers, against what the definitions give.
-use Rattle.std.specs.Prelude.{◌≡◌, ℕ, List, Option, Some, None, Result, Ok, Err}
+use Rattle.std.specs.Prelude.{◌≡◌, Option, Some, None, Result, Ok, Err}
 use Rattle.file_tree.specs.FileTree.{FileTree}
 use Rattle.wx_types.specs.declared.errors.Refusal.{Refusal}
 use Rattle.wx_types.specs.declared.errors.Refusal.TheVariants.{Errno as refused, Memory as NoMemory}

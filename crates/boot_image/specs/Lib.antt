@@ -4,3 +4,4 @@ pub mod Image
 pub mod Answers
 pub mod Steps
 pub mod Written
+pub mod Same

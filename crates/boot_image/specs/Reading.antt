@@ -4,7 +4,7 @@ use Rattle.std.specs.Int.{Width, w16, w32}
 use Rattle.byte_cursor.specs.declared.leb.CursorFault.{CursorFault}
 use Rattle.byte_cursor.specs.declared.leb.CursorFault.TheVariants.{End}
 use Rattle.byte_cursor.specs.ReadNumbers.{and_then, fixed_at, span_at}
-use Rattle.boot_image.specs.Entries.{Entry, Content, Directory, File}
+use Rattle.boot_image.specs.Entries.{Entry, Directory, File}
 use Rattle.boot_image.specs.declared.reading.Item.{Item}
 use Rattle.boot_image.specs.declared.reading.Item.TheVariants as items
 

@@ -1,9 +1,10 @@
 // Images of trees.
-ghost use Rattle.std.specs.Prelude.{◌≡◌, ◌<◌, ◌^◌, ◌++◌, ◌∷◌, [], ℕ, List, length, map, OnOk, IfOk, Some};
+ghost use Rattle.std.specs.Prelude.{◌≡◌, ◌↔◌, ◌<◌, ◌^◌, ◌++◌, ◌∷◌, [], ℕ, List, length, map, OnOk, IfOk, Some};
 ghost use Rattle.std.specs.FinMap.{entries};
 ghost use Rattle.std.specs.Int.{w16, w32, to_le_bytes};
 ghost use Rattle.std.specs.List.{flat_map};
 ghost use Rattle.boot_image.specs.Entries.{path_bytes, file_bytes, bytes_of, File, Directory};
+ghost use Rattle.boot_image.specs.Same.{ShortPaths, ReadsBack};
 ghost use Rattle.boot_image.specs.Written.{below, with_paths, paths_of, path_in, first_bytes, content_of, image_of};
 
 use crate::found::FoundPaths;
@@ -149,12 +150,15 @@ fn put_entry(
     }
 }
 
-/// The image of a tree: an entry for each path but the root's, in the order of the bytes of the paths. Where a path has
-/// more than 65,535 bytes the lengths do not tell what follows, and what is written is no image. `AllocError` is want of
-/// memory and nothing else.
+/// The image of a tree: an entry for each path but the root's, in the order of the bytes of the paths. Exactly where no path
+/// has more than 1,024 bytes, the bytes are an image of a tree with the same paths, kinds and contents, which `read_image` gives
+/// for them; a longer path, as moved directories may make, is none that an image can have. `AllocError` is want of memory and
+/// nothing else.
 pub fn write_image(alloc: Global, tree: &Tree) -> Result<Bytes, AllocError>
-    ensures { IfOk result (λ bytes. bytes ≡ image_of tree.now) }
+    ensures image { IfOk result (λ bytes. bytes ≡ image_of tree.now) }
+    ensures read { IfOk result (λ bytes. ShortPaths tree.now ↔ ReadsBack bytes tree.now) }
 {
+    tree.is_tree();
     let mut found = find_all(alloc, tree)?;
     let mut out = Vec::from_slice(alloc, b"WXI1")?;
     while let Some((path, node)) = found.take_first() {

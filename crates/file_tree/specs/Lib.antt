@@ -4,3 +4,4 @@ pub mod FileTree
 pub mod Listings
 pub mod Names
 pub mod Walk
+pub mod Trees

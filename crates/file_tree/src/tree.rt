@@ -1,12 +1,13 @@
 // The tree, and its calls.
-ghost use Rattle.std.specs.Prelude.{◌≡◌, ◌<◌, ◌^◌, IsTrue, IfOk, None, true, length};
-ghost use Rattle.tree_nodes.specs.Nodes.{size_of, is_free};
+ghost use Rattle.std.specs.Prelude.{◌≡◌, ◌<◌, ◌≤◌, ◌^◌, ℕ, List, IsTrue, IfOk, Some, None, true, length};
+ghost use Rattle.tree_nodes.specs.Nodes.{size_of, is_free, bytes_of_all};
 ghost use Rattle.file_tree.specs.Answers.{Gives, Leaves, Changes, Tells};
 ghost use Rattle.file_tree.specs.FileTree as spec;
 ghost use Rattle.file_tree.specs.Walk.{lookup, find, last_name};
 ghost use Rattle.file_tree.specs.Names.{create, mkdir, unlink, rmdir, rename, rename_node, made_at};
 ghost use Rattle.file_tree.specs.Files.{read_at, count_read, filled, write_at, set_size};
 ghost use Rattle.file_tree.specs.Listings.{stat, list, path_of};
+ghost use Rattle.file_tree.specs.Trees.{IsTree, IsName, Leads, target, target_in};
 
 use crate::edits::{
     has_no_names, is_dir, is_within, may_replace_at, move_node, release_node, take_name,
@@ -43,12 +44,15 @@ pub struct Tree {
 
 impl Model for Tree {
     ghost use Rattle.file_tree.specs.FileTree.{FileTree, tree_code};
+    ghost use Rattle.file_tree.specs.Trees.{IsTree};
 
     ghost Value = { FileTree };
 
     ghost coded = { tree_code };
 
     ghost view = { λ a. record { nodes = a.nodes; next = a.next } };
+
+    ghost invariant = { λ a. IsTree a.nodes a.next };
 }
 
 impl Tree {
@@ -67,6 +71,15 @@ impl Tree {
             },
         )?;
         Ok(Tree { nodes, next: 2 })
+    }
+
+    /// What holds of every tree: its links make one tree below the root, which is a directory; names are those that a
+    /// directory can have; there are at most 16,384 nodes, and all files have at most 67,108,864 bytes. Nothing is done.
+    pub fn is_tree(&self)
+        ensures tree { IsTree self.now.nodes self.now.next }
+        ensures bytes { bytes_of_all self.now.nodes ≤ spec.most_bytes }
+    {
+        let _ = self.nodes.total();
     }
 
     /// The node that a path from the directory `from` names. After the walk `Noent` comes where it
@@ -252,7 +265,8 @@ impl Tree {
         }
     }
 
-    /// The absolute path of the node. `Noent` comes where it was removed. `Memory` is want of memory.
+    /// The absolute path of the node, which may have more than 1,024 bytes where directories were moved. `Noent` comes where it
+    /// was removed. `Memory` is want of memory.
     pub fn path_of(&self, alloc: Global, node: u32) -> Result<Bytes, Refusal>
         ensures { Tells (path_of self.now node) result }
     {
@@ -304,6 +318,8 @@ impl Tree {
     ) -> Result<u32, Refusal>
         requires bytes { size_of content ≡ 0 }
         requires free { place.node ≡ None → is_free self.old.nodes place.dir (last_name path.now) ≡ true }
+        requires name { place.node ≡ None → IsName (last_name path.now) }
+        requires names { (name : List ℕ) → target_in content name ≡ None }
         ensures { Gives (made_at self.old path.now content refused place) self.old self.new result }
     {
         if place.node.is_some() {
@@ -340,6 +356,9 @@ impl Tree {
         new_name: &[u8],
         number: u32,
     ) -> Result<(), Refusal>
+        requires old { target self.old.nodes old.dir name.now ≡ Some number }
+        requires new { Leads self.old.nodes new.dir new_name.now new.node }
+        requires name { IsName new_name.now }
         ensures { Leaves (rename_node self.old old name.now new new_name.now number) self.old self.new result }
     {
         if !is_linked(&self.nodes, new.dir) {

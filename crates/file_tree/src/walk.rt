@@ -3,6 +3,7 @@ ghost use Rattle.std.specs.Prelude.{◌≡◌, true, None, Ok, Err, IfOk, MatchR
 ghost use Rattle.tree_nodes.specs.Nodes.{is_free};
 ghost use Rattle.file_tree.specs.FileTree as tree;
 ghost use Rattle.file_tree.specs.Walk as spec;
+ghost use Rattle.path_walk.specs.Paths.{AreParts};
 
 use crate::place::Place;
 use path_walk::Parts;
@@ -96,7 +97,9 @@ fn walk_names(nodes: &Nodes, from: u32, path: &Parts<'_>) -> Result<Place, Errno
 pub fn walk(nodes: &Nodes, from: u32, path: &Parts<'_>) -> Result<Place, Errno>
     ensures place { result ≡ spec.walk nodes.now from path.now }
     ensures free { IfOk result (λ place. place.node ≡ None → is_free nodes.now place.dir (spec.last_name path.now) ≡ true) }
+    ensures parts { AreParts path.now }
 {
+    path.are_parts();
     let start = if path.absolute() { ROOT } else { from };
     let place = walk_names(nodes, start, path)?;
     if path.must_dir()

@@ -1,6 +1,6 @@
 -- What a thread stands for after a branch, a call or a return.
-use Rattle.std.proofs.Common.{◌≡◌, ℕ, zero, suc, ◌+◌, ◌-◌, ◌<◌, ◌≤◌, Bool, true, false, cond, get_or, List, [], ◌∷◌, ◌++◌, length, take, drop, reverse, replicate, Some, Result, Ok, Err, refl, sym, ap, ap₂, subst, ◌∙◌, arith, length-append}
-use Rattle.std.specs.Prelude.{slice_get}
+use Rattle.std.proofs.Common.{◌≡◌, ℕ, zero, suc, ◌+◌, ◌-◌, ◌<◌, ◌≤◌, Bool, true, false, ◌&&◌, cond, get_or, List, [], ◌∷◌, ◌++◌, length, take, drop, reverse, replicate, Some, Result, Ok, Err, refl, sym, ap, ap₂, subst, ◌∙◌, arith, length-append}
+use Rattle.std.specs.Prelude.{nat_le, slice_get}
 use Rattle.std.proofs.lemmas.Option.{get_or_from_slice_get, slice_get_read}
 use Rattle.std.proofs.lemmas.List.{append_assoc, drop-drop, drop-take, get_or-take, length-drop, length-take, reverse-append, reverse-reverse, take-append-drop, take-take}
 use Rattle.int_ops.specs.declared.trap.Cause.{Cause}
@@ -19,7 +19,7 @@ use Rattle.guest_state.specs.Sound.{AreHeights, AreParted, IsSound}
 use Rattle.guest_state.specs.Steps.{branched, called, entered, has_room, left, returned, with_operands}
 use Rattle.guest_state.proofs.HeightLemmas.{above-below, above-top, below-below, below-last, below-top, length-above, length-below}
 use Rattle.guest_state.proofs.LabelLemmas.{returned_is}
-use Rattle.guest_state.proofs.SnapshotLemmas.{entered_frames, first_is, heights_low, heights_to, heights_top, kept, operands_few, other_operands, parted_operands, with_operands_is}
+use Rattle.guest_state.proofs.SnapshotLemmas.{entered_frames, first_is, has_room_is, heights_low, heights_to, heights_top, kept, operands_few, other_operands, parted_operands, parted_placed, with_operands_at, with_operands_is}
 
 -- a label, by its place among those of a frame
 labels_of-drop : (body : Sequence) (low : ℕ) (vs : List ℕ) (ls : List OpenLabel) (n : ℕ) → drop n (labels_of body low vs ls) ≡ labels_of body low vs (drop n ls)
@@ -361,3 +361,15 @@ labels_within values labels frames base sound fits = by_frames frames.items refl
   by_frames : (fs : List OpenFrame) → frames.items ≡ fs → length labels.items ≤ 16384
   by_frames [] e = let rest : AreParted [] (length values.items) labels.items = rw e at sound.parted in omega (arith, rest.1)
   by_frames (f ∷ fs) e = let room = sound.has_room (rw e (omega arith)) in omega (arith, room.labels_room, fits)
+
+-- whether a call finds room, by the lengths of the stacks
+pub call_room_is : (m : Module) (place : Position) (s : Snapshot) (over more : ℕ) → 0 < length s.frames → AreParted s.frames (length s.values) s.labels → over ≤ length (operands_of s)
+    → has_room (in_frame (with_operands over []) (thread_at m place s)) more ≡ (nat_le (length s.frames + 1) 1024 && nat_le (length s.values - over + more) 65536)
+call_room_is m place s over more some parted few =
+    let left : Snapshot = record s { frames = placed place s.frames; values = drop over s.values } in
+    let size : 0 + (length s.values - over) ≡ length (drop over s.values) = omega (arith, length-drop over s.values) in
+    let still : AreParted s.frames (length (drop over s.values)) s.labels = rw size at (parted_operands over 0 s.frames s.values s.labels parted few some) in
+    let room = has_room_is m left more (parted_placed place s.frames (length (drop over s.values)) s.labels still) in
+    let count : length (drop over s.values) + more ≡ length s.values - over + more = omega (arith, length-drop over s.values) in
+    ap (λ t. has_room t more) (sym (with_operands_at m place over [] s parted few)) ∙ room
+    ∙ ap₂ (λ frames values. nat_le (frames + 1) 1024 && nat_le values 65536) (length-placed place s.frames) count

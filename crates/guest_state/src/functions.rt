@@ -2,7 +2,7 @@
 ghost use Rattle.std.specs.Prelude.{◌≡◌, ◌+◌, ◌<◌, ◌^◌, if◌then◌else◌, length, IfOk, IsSome, option_copied};
 ghost use Rattle.wasm_ast.specs.TypingModule.{functions_of, globals_of};
 ghost use Rattle.wasm_ast.specs.Locals.{total};
-ghost use Rattle.wasm_ast.specs.Position.{BeginsWith, behind, remaining};
+ghost use Rattle.wasm_ast.specs.Position.{IsInstrAt, behind, remaining};
 ghost use Rattle.wasm_ast.specs.Table.{constant_value, instruction_constant};
 ghost use Rattle.guest_state.specs.Steps.{over_arguments, over_instruction};
 ghost use Rattle.guest_state.specs.Module.{body_of, own_function, type_of, further_locals, first_globals, param_count, result_count, first_value};
@@ -147,7 +147,7 @@ pub fn first_globals(alloc: Global, module: &Module) -> Result<Vec<u64>, AllocEr
 
 /// The instruction at which a frame stands, if it isn't at the end of a list.
 fn instruction(module: &Module, frame: OpenFrame) -> Option<&Instr>
-    ensures value { BeginsWith (body_of «module».now frame.function) frame.place (option_copied result) }
+    ensures value { IsInstrAt (body_of «module».now frame.function) frame.place (option_copied result) }
     ensures room { IsSome result → frame.place.index + 1 < 2 ^ 64 }
 {
     match module.codes.as_slice().get(frame.function as usize) {

@@ -5,5 +5,6 @@ pub mod LinkLemmas
 pub mod LoadLemmas
 pub mod MemoryLemmas
 pub mod NameLemmas
+pub mod Once
 pub mod StartLemmas
 pub mod WaitLemmas

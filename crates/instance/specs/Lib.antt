@@ -1,6 +1,5 @@
 pub mod Calls
 pub mod Rows
-pub mod Offsets
 pub mod Program
 pub mod Links
 pub mod Waiting

@@ -16,8 +16,7 @@ use Rattle.wasm_ast.specs.declared.module.Code.{Code}
 use Rattle.wasm_ast.specs.declared.module.Module.{Module}
 use Rattle.wasm_ast.specs.Sequence.{Sequence, Empty, Plain, Block, If}
 use Rattle.wasm_ast.specs.TypingModule.{is_typed}
-use Rattle.wasm_ast.specs.Table.{table_size}
-use Rattle.instance.specs.Offsets.{offset_value}
+use Rattle.wasm_ast.specs.Table.{table_size, offset_value}
 use Rattle.instance.specs.declared.fault.LoadFault.{LoadFault}
 use Rattle.instance.specs.declared.fault.LoadFault.TheVariants.{Invalid, Unlinked, SegmentOutside, NotYet}
 use Rattle.instance.specs.Calls.{call_number}

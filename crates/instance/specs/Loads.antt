@@ -25,6 +25,14 @@ Loads bytes (Err SegmentOutside) = Links bytes (Err SegmentOutside)
 Loads bytes (Err NotYet) = Links bytes (Err NotYet)
 Loads bytes (Err Memory) = AreWithin bytes
 
+-- bytes load as one program
+abbrev pub LoadAsOne : Type 0
+LoadAsOne = (bytes : List ℕ) (p q : Program) → Loads bytes (Ok p) → Loads bytes (Ok q) → p ≡ q
+
+-- and bytes that load as a program have no fault
+abbrev pub LoadOrFail : Type 0
+LoadOrFail = (bytes : List ℕ) (program : Program) (fault : LoadFault) → Loads bytes (Ok program) → Loads bytes (Err fault) → fault ≡ Memory
+
 -- that answer, or want of memory
 abbrev pub IsUnlessMemory : Result Program LoadFault → Result Program LoadFault → Type 0
 IsUnlessMemory result answer = (result ≡ answer) ⊎ (result ≡ Err Memory)

@@ -20,8 +20,7 @@ use Rattle.wasm_ast.specs.TypingModule.{functions_of}
 use Rattle.guest_state.specs.GuestThread.{GuestThread}
 use Rattle.guest_state.specs.Module.{own_function}
 use Rattle.guest_state.specs.Steps.{entered, started}
-use Rattle.wasm_ast.specs.Table.{function_type, same_types}
-use Rattle.instance.specs.Offsets.{offset_value}
+use Rattle.wasm_ast.specs.Table.{function_type, same_types, offset_value}
 use Rattle.instance.specs.declared.exports.ExportKind.{ExportKind as ExportedFor}
 use Rattle.instance.specs.declared.exports.ExportKind.TheVariants.{Start, ThreadStart, Handler}
 

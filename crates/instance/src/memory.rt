@@ -6,10 +6,10 @@ ghost use Rattle.wasm_ast.specs.TypingModule.{globals_of};
 ghost use Rattle.instance.specs.Links.{segment_fits};
 ghost use Rattle.instance.specs.Program.{empty_memory, memory_limits, with_segment};
 
-use crate::segments::offset_value;
 use linear_memory::Memory;
 use std::alloc::{AllocError, Global};
 use wasm_ast::{Limits, Module};
+use wasm_validate::offset_value;
 
 /// The most pages of a memory that has no bound of its own.
 const MOST_PAGES: u32 = 65_536;
@@ -51,7 +51,7 @@ pub fn write_segments(module: &Module, memory: &mut Memory)
     ensures { memory.new ≡ record memory.old { bytes = fold (with_segment «module».now) memory.old.bytes «module».now.segments } }
 {
     for segment in module.segments.as_slice() {
-        let at = offset_value(module, &segment.offset);
+        let at = offset_value(module, 0, &segment.offset);
         write(memory, at, segment.bytes.as_slice());
     }
 }

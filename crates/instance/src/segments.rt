@@ -1,67 +1,13 @@
 // Where segments begin, and whether they fit (WebAssembly Core 1.0, 4.5.4).
 ghost use Rattle.std.specs.Prelude.{◌≡◌, ◌+◌, ◌*◌, [], filter_map, length, nat_le, slice_get};
 ghost use Rattle.std.specs.List.{list_all};
-ghost use Rattle.wasm_ast.specs.Table.{constant_value, instruction_constant, table_size};
+ghost use Rattle.wasm_ast.specs.Table.{table_size};
 ghost use Rattle.wasm_ast.specs.TypingModule.{globals_of};
 ghost use Rattle.instance.specs.Links.{element_fits, segment_fits, segments_fit};
-ghost use Rattle.instance.specs.Offsets.{instruction_offset, offset_value, global_value};
 ghost use Rattle.instance.specs.Program.{empty_memory, imported_memory, memory_limits};
 
-use wasm_ast::{Body, Import, ImportKind, Instr, Limits, Module, Position, VariableOp};
-
-/// The number of a constant, and 0 of any other instruction.
-fn instruction_constant(instr: &Instr) -> u64
-    ensures { result ≡ instruction_constant instr.now }
-{
-    match instr {
-        Instr::I32Const(n) => n.cast_unsigned() as u64,
-        Instr::I64Const(n) => n.cast_unsigned(),
-        _ => 0,
-    }
-}
-
-/// The value of a constant, and 0 where it is that of a global.
-fn constant_value(init: &Body) -> u64
-    ensures { result ≡ constant_value init.now }
-{
-    match init.at(Position::start(0)) {
-        Some(instr) => instruction_constant(instr),
-        None => 0,
-    }
-}
-
-/// The first value of a global, where none is imported.
-fn global_value(module: &Module, index: u32) -> u64
-    requires { globals_of «module».now.imports ≡ [] }
-    ensures { result ≡ global_value «module».now index }
-{
-    match module.globals.as_slice().get(index as usize) {
-        Some(global) => constant_value(&global.init),
-        None => 0,
-    }
-}
-
-/// What an instruction of an offset gives.
-fn instruction_offset(module: &Module, instr: &Instr) -> u64
-    requires { globals_of «module».now.imports ≡ [] }
-    ensures { result ≡ instruction_offset «module».now instr.now }
-{
-    match instr {
-        Instr::Variable(VariableOp::GlobalGet, index) => global_value(module, *index),
-        _ => instruction_constant(instr),
-    }
-}
-
-/// The value of an offset, where no global is imported.
-pub fn offset_value(module: &Module, offset: &Body) -> u64
-    requires { globals_of «module».now.imports ≡ [] }
-    ensures { result ≡ offset_value «module».now offset.now }
-{
-    match offset.at(Position::start(0)) {
-        Some(instr) => instruction_offset(module, instr),
-        None => 0,
-    }
-}
+use wasm_ast::{Import, ImportKind, Limits, Module};
+use wasm_validate::offset_value;
 
 /// Whether so many places from an offset on lie within a size.
 fn is_within(offset: u64, count: usize, size: u64) -> bool
@@ -112,7 +58,7 @@ fn elements_fit(module: &Module) -> bool
 {
     let size = u64::from(table_size(module));
     for element in module.elements.as_slice() {
-        let offset = offset_value(module, &element.offset);
+        let offset = offset_value(module, 0, &element.offset);
         if !is_within(offset, element.functions.len(), size) {
             return false;
         }
@@ -137,7 +83,7 @@ fn data_fits(module: &Module) -> bool
 {
     let size = memory_size(module);
     for segment in module.segments.as_slice() {
-        let offset = offset_value(module, &segment.offset);
+        let offset = offset_value(module, 0, &segment.offset);
         if !is_within(offset, segment.bytes.len(), size) {
             return false;
         }

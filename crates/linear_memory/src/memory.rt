@@ -1,5 +1,6 @@
 // The bytes of a memory, and what reads and writes them.
 ghost use Rattle.std.specs.Prelude.{◌≡◌, ◌<◌, ◌≤◌, ◌+◌, ◌*◌, ◌^◌, ◌↔◌, ◌++◌, length, Ok, Err, IfOk, IfErr, OnOk, OnErr};
+ghost use Rattle.std.specs.List.{All};
 ghost use Rattle.int_ops.specs.Atomic.{IsAccessWidth};
 ghost use Rattle.linear_memory.specs.LinearMemory.{zero_pages, is_within, range_of, grown, page_count};
 ghost use Rattle.linear_memory.specs.Accesses.{loaded, stored, modified, exchanged, written};
@@ -61,8 +62,10 @@ impl Memory {
         ensures value { result ≡ page_count self.now }
         ensures len { length self.now.bytes ≡ 65536 * result }
         ensures most { result ≤ 256 }
+        ensures bytes { All (λ byte. byte < 256) self.now.bytes }
     {
-        (self.bytes.len() / PAGE) as u32
+        let bytes = self.bytes.as_slice();
+        (bytes.len() / PAGE) as u32
     }
 
     /// Whether the threads of a process share it.

@@ -48,10 +48,7 @@ impl<'a> Case<'a> {
 
 /// What comes of bytes, which may be stated to be written as others.
 fn judged(alloc: Global, bytes: &[u8], written: &Option<Vec<u8>>) -> Result<Answer> {
-    let wanted = match written {
-        Some(written) => Some(written.as_slice()),
-        None => None,
-    };
+    let wanted = written.as_ref().map(|written| written.as_slice());
     Ok(answer_of(alloc, bytes, wanted)?)
 }
 

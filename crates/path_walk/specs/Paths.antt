@@ -1,6 +1,6 @@
 -- Paths and their components (POSIX.1-2017, 3.271 and 4.13).
-use Rattle.std.specs.Prelude.{ℕ, Bool, true, false, not, ◌||◌, ◌==◌, nat_lt, if◌then◌else◌, List, [], ◌∷◌, length, Option, Some, None, Result, Ok, Err}
-use Rattle.std.specs.List.{filter, list_any, last_or}
+use Rattle.std.specs.Prelude.{◌≡◌, ℕ, ◌≤◌, Bool, true, false, not, ◌||◌, ◌==◌, nat_lt, if◌then◌else◌, List, [], ◌∷◌, length, Option, Some, None, Result, Ok, Err}
+use Rattle.std.specs.List.{filter, list_any, last_or, AllByRecursion}
 use Rattle.std.specs.Str.{bytes_eq, is_utf8}
 use Rattle.wx_types.specs.declared.errors.Errno.{Errno}
 use Rattle.wx_types.specs.declared.errors.Errno.TheVariants.{Noent, Nametoolong, Inval}
@@ -90,3 +90,18 @@ split_path path =
     else if is_too_long path then Err Nametoolong
     else if is_no_text path then Err Inval
     else Ok (parts_of path)
+
+-- a component that a walk takes, `..` among them: 1 to 255 bytes of UTF-8 without a slash and a zero byte, and not `.`
+pub record IsComponent (name : List ℕ) : Type 0 where
+  pub taken : is_name name ≡ true
+  pub short : length name ≤ 255
+  pub text : is_utf8 name ≡ true
+  pub no_slash : list_any (λ byte. byte == 47) name ≡ false
+  pub no_zero : list_any (λ byte. byte == 0) name ≡ false
+
+-- what holds of the parts of every path: where there is no component it must name a directory, and where the last one is
+-- `..` the path ends with dots
+pub record AreParts (path : PathParts) : Type 0 where
+  pub components : AllByRecursion IsComponent path.names
+  pub none : path.names ≡ [] → path.must_dir ≡ true
+  pub dots : is_dots (last_or None path.names) ≡ true → path.last_dot ≡ true

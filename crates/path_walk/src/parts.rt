@@ -1,11 +1,11 @@
 // A path's components, and the rules that they are tested by.
-ghost use Rattle.std.specs.Prelude.{◌≡◌, ◌<◌, ◌≤◌, ◌+◌, ◌*◌, ◌++◌, ◌∷◌, [], if◌then◌else◌, not, length, map, take, slice_index_or};
+ghost use Rattle.std.specs.Prelude.{◌≡◌, false, ◌<◌, ◌≤◌, ◌+◌, ◌*◌, ◌++◌, ◌∷◌, [], if◌then◌else◌, not, length, map, take, slice_index_or};
 ghost use Rattle.std.specs.List.{filter};
 ghost use Rattle.std.specs.Option.{option_copied};
 ghost use Rattle.arrayvec.specs.ArrayVec.{array_vec_len};
 ghost use Rattle.std.specs.Str as text;
 ghost use Rattle.path_walk.specs.Paths as spec;
-ghost use Rattle.path_walk.specs.Paths.{pieces, is_empty, is_long_piece, any_is_long, is_no_text, parts_of, split_path};
+ghost use Rattle.path_walk.specs.Paths.{pieces, is_empty, is_long_piece, any_is_long, is_no_text, parts_of, split_path, AreParts};
 ghost use Rattle.path_walk.specs.Pieces.{first_len, pieces_left, left_len, dots_test};
 
 use arrayvec::ArrayVec;
@@ -24,14 +24,24 @@ pub struct Parts<'a> {
 
 impl<'a> Model for Parts<'a> {
     ghost use Rattle.std.specs.Prelude.{map};
-    ghost use Rattle.path_walk.specs.Paths.{PathParts};
+    ghost use Rattle.path_walk.specs.Paths.{PathParts, AreParts};
 
     ghost Value = { PathParts };
+
+    ghost invariant = { λ a. AreParts (record { absolute = a.absolute; must_dir = a.must_dir; last_dot = a.last_dot; names = map (λ name. name.now) a.names.items }) };
 
     ghost view = { λ a. record { absolute = a.absolute; must_dir = a.must_dir; last_dot = a.last_dot; names = map (λ name. name.now) a.names.items } };
 }
 
 impl<'a> Parts<'a> {
+    /// What holds of the parts of every path: each component has 1 to 255 bytes, is UTF-8, has no slash and no zero byte, and
+    /// isn't `.`; without a component the path must name a directory; where the last one is `..`, `last_dot` holds.
+    pub fn are_parts(&self)
+        ensures { AreParts self.now }
+    {
+        let _ = self.names.len();
+    }
+
     /// Whether the path begins with `/`, and so at the root.
     pub fn absolute(&self) -> bool
         ensures { result ≡ self.now.absolute }
@@ -162,7 +172,9 @@ fn dots_after(before: bool, piece: &[u8]) -> bool
 
 // The parts of a path that isn't too long.
 fn gather(path: &[u8]) -> Parts<'_>
-    requires { length path.now ≤ 1024 }
+    requires len { length path.now ≤ 1024 }
+    requires short { any_is_long (pieces path.now) ≡ false }
+    requires text { is_no_text path.now ≡ false }
     ensures { result ≡ parts_of path.now }
 {
     let mut names = ArrayVec::new();

@@ -16,7 +16,8 @@ use Rattle.tree_nodes.specs.Nodes.{NodeMap, sizes, size_of, size_found, bytes_of
 use Rattle.tree_nodes.specs.declared.node.Content.{Content}
 use Rattle.tree_nodes.specs.declared.node.Content.TheVariants.{File, Dir}
 use Rattle.tree_nodes.specs.declared.node.Node.{Node}
-use Rattle.tree_nodes.proofs.MapLemmas.{get_entry, inserted, entries_of_sorted}
+use Rattle.tree_nodes.proofs.MapLemmas.{get_entry, find_entry, inserted, entries_of_sorted, entries_put, entries_rise, taken_at}
+use Rattle.std.specs.FinMap.{entries, get-entries}
 use Rattle.std.specs.FinMap.{remove}
 use Rattle.tree_nodes.specs.Nodes.{named, forgotten, is_free, lacks_name, lacks_name_at, with_change}
 
@@ -165,7 +166,7 @@ remove_inserted names name number none = same_map nat_list_cmp_total (slice_cmp-
 get_inserted : (nodes : NodeMap) (number : ℕ) (node : Node) → get (insert nodes number node) number ≡ Some node
 get_inserted nodes number node = get-insert nat_cmp_total nodes number node number ∙ ap (λ r. cond (is_eq r) (Some node) (get nodes number)) (tied_itself nat_cmp_total number)
 
-insert_twice : (nodes : NodeMap) (number : ℕ) (v w : Node) → insert (insert nodes number v) number w ≡ insert nodes number w
+pub insert_twice : (nodes : NodeMap) (number : ℕ) (v w : Node) → insert (insert nodes number v) number w ≡ insert nodes number w
 insert_twice nodes number v w = same_map nat_cmp_total nat_cmp-IsAntisymmetric _ _ (λ q.
     get-insert nat_cmp_total (insert nodes number v) number w q
     ∙ ap (cond (is_eq (nat_cmp q number)) (Some w)) (get-insert nat_cmp_total nodes number v q)
@@ -198,3 +199,22 @@ undone_at nodes dir name number (Some node) there lacks =
 
 pub undone : (nodes : NodeMap) (dir : ℕ) (name : List ℕ) (number : ℕ) → is_free nodes dir name ≡ true → forgotten (named nodes dir name number) dir name ≡ nodes
 undone nodes dir name number free = undone_at nodes dir name number (get nodes dir) refl free
+
+-- ---- the bytes of all files
+
+-- a node put in, in place of another or not
+pub bytes_put : (nodes : NodeMap) (k : ℕ) (v : Node) → bytes_of_all (insert nodes k v) + size_found (get nodes k) ≡ bytes_of_all nodes + size_of v.content
+bytes_put nodes k v =
+    let at : get nodes k ≡ lookup (is_at (nat_cmp k)) (entries nodes) = get-entries nodes k ∙ find_entry nat_cmp_total (entries nodes) k in
+    omega (arith, ap sizes (entries_put nat_cmp nat_cmp_total nodes k v), ap size_found at, sizes_inserted k v (entries nodes) (entries_rise nat_cmp nodes))
+
+pub bytes_taken : (nodes : NodeMap) (k : ℕ) (v : Node) → get nodes k ≡ Some v → bytes_of_all (remove nodes k) + size_of v.content ≡ bytes_of_all nodes
+bytes_taken nodes k v there =
+    let back : insert (remove nodes k) k v ≡ nodes = same_map nat_cmp_total nat_cmp-IsAntisymmetric _ _ (λ q.
+    get-insert nat_cmp_total (remove nodes k) k v q ∙ ap (cond (is_eq (nat_cmp q k)) (Some v)) (get-remove nat_cmp_total nodes k q) ∙ at q (nat_cmp q k) refl) in
+    omega (arith, bytes_put (remove nodes k) k v, ap bytes_of_all back, ap size_found (taken_at nat_cmp_total nat_cmp-IsAntisymmetric nodes k))
+  where
+    at : (q : ℕ) (r : Ordering) → nat_cmp q k ≡ r → cond (is_eq r) (Some v) (cond (is_eq r) None (get nodes q)) ≡ get nodes q
+    at q Less e = refl
+    at q Equal e = sym (ap (get nodes) (nat_cmp-IsAntisymmetric q k e) ∙ there)
+    at q Greater e = refl

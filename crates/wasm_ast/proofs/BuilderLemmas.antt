@@ -1,22 +1,19 @@
 -- A body that is being built lies in its lists in the order of the text.
-use Rattle.std.proofs.Common.{◌≡◌, ℕ, ◌+◌, ◌<◌, ◌≤◌, List, [], ◌∷◌, ◌++◌, length, map, reverse, get_or, Option, None, refl, sym, ◌∙◌, ap, subst, arith, length-append, append_assoc, true, Result, Ok, Err, OnOk, OnErr}
+use Rattle.std.proofs.Common.{◌≡◌, ℕ, ◌+◌, ◌<◌, ◌≤◌, List, [], ◌∷◌, ◌++◌, length, map, reverse, get_or, Option, refl, sym, ◌∙◌, ap, subst, arith, length-append, append_assoc, true, Result, Ok, Err, OnOk, OnErr}
 use Rattle.std.proofs.lemmas.Bool.{false≢true}
 use Rattle.std.proofs.Math.ListN.{set}
 use Rattle.std.proofs.Math.Seq.{set-append_seam, get_or-append_seam}
 use Rattle.std.proofs.lemmas.List.{append-nil, reverse-append}
 use Rattle.wasm_ast.specs.declared.types.ValType.{ValType}
-use Rattle.wasm_ast.specs.declared.instr.Instr.{Instr}
+use Rattle.wasm_ast.specs.declared.instr.{Instr.Instr, Construct.Construct}
 use Rattle.wasm_ast.specs.declared.instr.Instr.TheVariants as instr
-use Rattle.wasm_ast.specs.declared.instr.BlockKind.{BlockKind}
-use Rattle.wasm_ast.specs.declared.instr.BlockKind.TheVariants as kind
-use Rattle.wasm_ast.specs.declared.instr.Construct.{Construct}
 use Rattle.wasm_ast.specs.declared.instr.Construct.TheVariants as construct
 use Rattle.wasm_ast.specs.declared.builder.Frame.{Frame}
 use Rattle.wasm_ast.specs.declared.builder.Frame.TheVariants as frame
 use Rattle.wasm_ast.specs.Sequence.{Sequence, Empty, Plain, Block, If}
 use Rattle.wasm_ast.specs.Numbering.{list_at, nested, count, block_instr, own_list, inner_lists, lists_of}
 use Rattle.wasm_ast.specs.Position.{inner_sequences}
-use Rattle.wasm_ast.specs.Built.{Open, Inside, Else, Built, append, NamesNone, with_plain, with_open, takes_else, with_else, with_end, whole, closed, ended}
+use Rattle.wasm_ast.specs.Built.{Open, Inside, Else, Built, append, NamesNone, with_plain, with_open, takes_else, with_else, with_end, ended}
 use Rattle.wasm_ast.specs.Building.{inner, opened, text, frames_of, open_of, built_of, IsBuilt}
 use Rattle.wasm_ast.specs.Wrapping.{outer_of, Wraps}
 use Rattle.wasm_ast.proofs.TextOrder.{AllPlain, nested_plain, length-inner_lists, length-inner_sequences, nested-inner_lists}
@@ -38,22 +35,23 @@ own-append : (n : ℕ) (s t : Sequence) → own_list n (append s t) ≡ own_list
 own-append n Empty t = ap (λ m. own_list m t) (omega arith)
 own-append n (Plain i rest) t = ap (λ is. i ∷ is) (own-append n rest t)
 own-append n (Block k of body rest) t =
-    ap (λ is. block_instr k of n ∷ is) (own-append (n + (1 + count body)) rest t ∙ ap (λ m. own_list (n + (1 + count body)) rest ++ own_list m t) (omega arith))
+    let m : n + (1 + count body) + count rest ≡ n + (1 + count body + count rest) = omega arith in rw (own-append (n + (1 + count body)) rest t, m) refl
 own-append n (If of then otherwise rest) t =
-    ap (λ is. instr.If of n (n + (1 + count then)) ∷ is)
-    (own-append (n + (2 + count then + count otherwise)) rest t ∙ ap (λ m. own_list (n + (2 + count then + count otherwise)) rest ++ own_list m t) (omega arith))
+    let m : n + (2 + count then + count otherwise) + count rest ≡ n + (2 + count then + count otherwise + count rest) = omega arith in
+    rw (own-append (n + (2 + count then + count otherwise)) rest t, m) refl
 
 inner-append : (n : ℕ) (s t : Sequence) → inner_lists n (append s t) ≡ inner_lists n s ++ inner_lists (n + count s) t
 inner-append n Empty t = ap (λ m. inner_lists m t) (omega arith)
 inner-append n (Plain i rest) t = inner-append n rest t
 inner-append n (Block k of body rest) t =
-    ap (λ ls. own_list (n + 1) body ∷ inner_lists (n + 1) body ++ ls) (inner-append (n + (1 + count body)) rest t ∙ ap (λ m. inner_lists (n + (1 + count body)) rest ++ inner_lists m t) (omega arith))
-    ∙ ap (λ ls. own_list (n + 1) body ∷ ls) (sym (append_assoc (inner_lists (n + 1) body) (inner_lists (n + (1 + count body)) rest) (inner_lists (n + (1 + count body + count rest)) t)))
+    let m : n + (1 + count body) + count rest ≡ n + (1 + count body + count rest) = omega arith in
+    let e = inner-append (n + (1 + count body)) rest t in
+    rw (e, m) (simp append_assoc)
 inner-append n (If of then otherwise rest) t =
-    let m = n + (2 + count then) in
     let l = n + (2 + count then + count otherwise) in
-    ap (λ ls. own_list (n + 1) then ∷ inner_lists (n + 1) then ++ (own_list m otherwise ∷ inner_lists m otherwise ++ ls)) (inner-append l rest t ∙ ap (λ k. inner_lists l rest ++ inner_lists k t) {y = n + (2 + count then + count otherwise + count rest)} (omega arith))
-    ∙ simp append_assoc
+    let m : l + count rest ≡ n + (2 + count then + count otherwise + count rest) = omega arith in
+    let e = inner-append l rest t in
+    rw (e, m) (simp append_assoc)
 
 sequences-append : (s t : Sequence) → inner_sequences (append s t) ≡ inner_sequences s ++ inner_sequences t
 sequences-append Empty t = refl
@@ -65,10 +63,8 @@ sequences-append (If of then otherwise rest) t =
 -- The builder's state is the view of its lists.
 found : (front u : Sequence) (back xs : List Sequence) → xs ≡ inner_sequences (append front (inner u)) ++ back → get_or xs (count front) Empty ≡ u
 found front u back xs e =
-    let before = inner_sequences front in
-    ap (λ ys. get_or ys (count front) Empty) (e ∙ ap (λ ys. ys ++ back) (sequences-append front (inner u)) ∙ append_assoc before (inner_sequences (inner u)) back)
-    ∙ ap (λ n. get_or (before ++ u ∷ ((inner_sequences u ++ []) ++ back)) n Empty) (sym (length-inner_sequences front))
-    ∙ get_or-append_seam before u ((inner_sequences u ++ []) ++ back) Empty
+    rw (e, sequences-append front (inner u), append_assoc (inner_sequences front) (inner_sequences (inner u)) back, ← length-inner_sequences front)
+    (get_or-append_seam (inner_sequences front) u ((inner_sequences u ++ []) ++ back) Empty)
 
 behind_one : (front u : Sequence) (back xs : List Sequence) → xs ≡ inner_sequences (append front (inner u)) ++ back → xs ≡ inner_sequences front ++ (inner_sequences (inner u) ++ back)
 behind_one front u back xs e = e ∙ ap (λ ys. ys ++ back) (sequences-append front (inner u)) ∙ append_assoc (inner_sequences front) (inner_sequences (inner u)) back
@@ -96,9 +92,9 @@ made lists fs n v p b = (same, subst (λ w. IsBuilt lists fs n w) (sym same) b) 
   same : built_of lists fs n ≡ v
   same =
       let xs = inner_sequences (text v) in
-      let whole = sym (append-nil xs) in
-      let o = ap (map (open_of lists)) b.frames_are ∙ opens_are lists xs numbered v.opens (inner_sequences (inner v.before) ++ []) (behind_one (opened v.opens) v.before [] xs whole) in
-      let s = ap (nested lists) b.list_is ∙ numbered (count (opened v.opens)) ∙ found (opened v.opens) v.before [] xs whole in
+      let all = sym (append-nil xs) in
+      let o = ap (map (open_of lists)) b.frames_are ∙ opens_are lists xs numbered v.opens (inner_sequences (inner v.before) ++ []) (behind_one (opened v.opens) v.before [] xs all) in
+      let s = ap (nested lists) b.list_is ∙ numbered (count (opened v.opens)) ∙ found (opened v.opens) v.before [] xs all in
       ap (λ os. record { opens = os; before = nested lists n }) o ∙ ap (λ t. record { opens = v.opens; before = t }) s
 
 opened_plain : (lists : List (List Instr)) (fs : List Frame) → AllPlain (opened (map (open_of lists) fs))
@@ -158,23 +154,14 @@ module _ (front u w : Sequence) (i : Instr) where
       let c = count-append front (inner u) in
       let list = own_list (m + 1) u in
       let behind = (inner_lists (m + 1) u ++ []) ++ inner_lists place w in
-      let whole : lists ≡ before ++ list ∷ behind =
+      let parts : lists ≡ before ++ list ∷ behind =
       p ∙ ap (λ ls. ls ++ inner_lists place w) (inner-append 0 front (inner u) ∙ ap (λ k. before ++ inner_lists k (inner u)) {x = 0 + m} {y = m} (omega arith)) ∙ append_assoc before (inner_lists m (inner u)) (inner_lists place w) in
       let seam : list_at (before ++ list ∷ behind) m ≡ list = ap (λ k. list_at (before ++ list ∷ behind) k) (sym l) ∙ get_or-append_seam before list behind [] in
-      ap (λ ls. set ls m (list_at ls m ++ i ∷ [])) whole
-      ∙ ap (λ x. set (before ++ list ∷ behind) m (x ++ i ∷ [])) seam
-      ∙ ap (λ k. set (before ++ list ∷ behind) k (list ++ i ∷ [])) (sym l)
-      ∙ set-append_seam before list behind (list ++ i ∷ [])
-      ∙ ap (λ is. before ++ (list ++ is) ∷ behind) (sym o)
-      ∙ ap (λ k. before ++ (list ++ own_list k w) ∷ ((inner_lists (m + 1) u ++ []) ++ inner_lists k w)) {x = place} {y = (m + 1) + count u} (omega arith)
-      ∙ ap (λ ls. before ++ (list ++ own_list ((m + 1) + count u) w) ∷ (ls ++ inner_lists ((m + 1) + count u) w)) (append-nil (inner_lists (m + 1) u))
-      ∙ ap (λ is. before ++ is ∷ (inner_lists (m + 1) u ++ inner_lists ((m + 1) + count u) w)) (sym (own-append (m + 1) u w))
-      ∙ ap (λ ls. before ++ own_list (m + 1) (append u w) ∷ ls) (sym (inner-append (m + 1) u w) ∙ sym (append-nil (inner_lists (m + 1) (append u w))))
-      ∙ ap (λ k. before ++ inner_lists k (inner (append u w))) {x = m} {y = 0 + m} (omega arith)
-      ∙ sym (inner-append 0 front (inner (append u w)))
-
-  place_is : place ≡ count front + (1 + count u)
-  place_is = omega (arith, count-append front (inner u))
+      let set_at : set (before ++ list ∷ behind) m (list ++ i ∷ []) ≡ before ++ (list ++ i ∷ []) ∷ behind = ap (λ k. set (before ++ list ∷ behind) k (list ++ i ∷ [])) (sym l) ∙ set-append_seam before list behind (list ++ i ∷ []) in
+      let at : (m + 1) + count u ≡ place = omega arith in
+      let zero : 0 + m ≡ m = omega arith in
+      rw (parts, seam, set_at, inner-append 0 front (inner (append u w)), zero, own-append (m + 1) u w, inner-append (m + 1) u w, at, o)
+      (simp append-nil (ap (λ ls. before ++ (list ++ i ∷ []) ∷ ls) (sym (append-nil (inner_lists (m + 1) u ++ inner_lists place w)))))
 
 -- an instruction is added to the list that is filled
 pub plain_made : (lists : List (List Instr)) (fs : List Frame) (n : ℕ) (lists' : List (List Instr)) (i : Instr) → IsKept lists fs n → NamesNone i → lists' ≡ set lists n (list_at lists n ++ i ∷ []) →
@@ -300,7 +287,7 @@ module _ (lists : List (List Instr)) (f : Frame) (fs : List Frame) (n : ℕ) (ke
         ∙ ap (λ ls. inner_lists 0 front ++ ((own_list (m + 1) t ∷ ls) ++ (own_list (m + (2 + count t)) last ∷ (inner_lists (m + (2 + count t)) last ++ [])))) (append-nil (inner_lists (m + 1) t))
         ) s
 
--- the body is whole
+-- the body is complete
 pub finish_made : (lists : List (List Instr)) (fs : List Frame) (n : ℕ) → map (open_of lists) fs ≡ [] → IsKept lists fs n → (lists ≡ lists_of (nested lists 0)) × (nested lists 0 ≡ nested lists n)
 finish_made lists (f ∷ fs) n none kept = absurd (let e = none in cc)
 finish_made lists [] n none kept =

@@ -27,8 +27,7 @@ joined-other (x ∷ y ∷ gs) g d (suc i) n h = ap (λ l. x ∷ l) (joined-other
 
 pub total-joined : (gs : List LocalGroup) (g : LocalGroup) → total (joined gs g) ≡ total gs + g.count
 total-joined [] g = omega arith
-total-joined (x ∷ []) g =
-    elim (same_type x.of g.of) as (λ b. total (cond b ((record { count = x.count + g.count; of = x.of }) ∷ []) (x ∷ g ∷ [])) ≡ x.count + 0 + g.count) [ true ↦ omega arith | false ↦ omega arith ]
+total-joined (x ∷ []) g = grind arith
 total-joined (x ∷ y ∷ gs) g = omega (arith, total-joined (y ∷ gs) g)
 
 merged-pair : (x g : LocalGroup) (b : Bool) → same_type x.of g.of ≡ b → 0 < g.count → 0 < x.count →

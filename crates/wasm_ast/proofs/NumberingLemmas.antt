@@ -1,10 +1,10 @@
 -- The sequence of a numbered list is that of its instructions.
-use Rattle.std.proofs.Common.{◌≡◌, ℕ, zero, suc, ◌+◌, ◌<◌, ◌≤◌, List, [], ◌∷◌, length, refl, ap, arith, ◌∙◌, sym}
+use Rattle.std.proofs.Common.{◌≡◌, ℕ, zero, suc, ◌≤◌, List, [], ◌∷◌, length, refl, ap, arith, ◌∙◌}
 use Rattle.wasm_ast.specs.declared.instr.Instr.{Instr}
 use Rattle.wasm_ast.specs.declared.instr.Instr.TheVariants as instr
 use Rattle.wasm_ast.specs.declared.instr.BlockKind.TheVariants as kind
 use Rattle.wasm_ast.specs.Sequence.{Sequence, Block, If}
-use Rattle.wasm_ast.specs.Numbering.{list_at, InstrNames, ListNames, in_front, sequence, within, nested}
+use Rattle.wasm_ast.specs.Numbering.{list_at, InstrNames, ListNames, in_front, sequence}
 
 -- inner sequences count only where they are named
 in_front-agree : (F G : ℕ → Sequence) (i : Instr) (s : Sequence) → InstrNames (λ m. F m ≡ G m) i → in_front F i s ≡ in_front G i s
@@ -31,19 +31,3 @@ pub past_end : (lists : List (List Instr)) (n : ℕ) → length lists ≤ n → 
 past_end [] n h = refl
 past_end (is ∷ lists) zero h = absurd (omega arith)
 past_end (is ∷ lists) (suc n) h = past_end lists n (omega arith)
-
--- no more depth is needed than there are lists from that number on
-module _ (lists : List (List Instr)) (inner : (n : ℕ) → ListNames (λ m. (n < m) × (m < length lists)) (list_at lists n)) where
-  pub within-deep : (d e n : ℕ) → length lists ≤ d + n → length lists ≤ e + n → within lists d n ≡ within lists e n
-  unfolding within
-  within-deep zero zero n h k = refl
-  within-deep zero (suc e) n h k = ap (sequence (within lists e)) (sym (past_end lists n (omega arith)))
-  within-deep (suc d) zero n h k = ap (sequence (within lists d)) (past_end lists n (omega arith))
-  within-deep (suc d) (suc e) n h k =
-      sequence-agree (within lists d) (within lists e) (list_at lists n)
-      (list_names (λ m. (n < m) × (m < length lists)) (λ m. within lists d m ≡ within lists e m) (list_at lists n)
-      (λ m p. within-deep d e m (omega (arith, p.0)) (omega (arith, p.0))) (inner n))
-
-  pub nested-step : (n : ℕ) → nested lists n ≡ sequence (nested lists) (list_at lists n)
-  unfolding nested within
-  nested-step n = within-deep (length lists) (suc (length lists)) n (omega arith) (omega arith)

@@ -5,14 +5,13 @@ use Rattle.std.proofs.lemmas.List.{append-nil, map-append, get_or-append_right, 
 use Rattle.std.proofs.lemmas.Option.{slice_get_within, get_or_from_slice_get, slice_get-get_or}
 use Rattle.std.proofs.lemmas.Bool.{cases_lt}
 use Rattle.wasm_ast.specs.declared.types.ValType.{ValType}
-use Rattle.wasm_ast.specs.declared.instr.Instr.{Instr}
+use Rattle.wasm_ast.specs.declared.instr.{Instr.Instr, BlockKind.BlockKind}
 use Rattle.wasm_ast.specs.declared.instr.Instr.TheVariants as instr
-use Rattle.wasm_ast.specs.declared.instr.BlockKind.{BlockKind}
 use Rattle.wasm_ast.specs.declared.instr.BlockKind.TheVariants as kind
 use Rattle.wasm_ast.specs.Sequence.{Sequence, Empty, Plain, Block, If}
 use Rattle.wasm_ast.specs.Numbering.{list_at, InstrNames, ListNames, in_front, sequence, within, nested, count, block_instr, own_list, inner_lists, lists_of}
-use Rattle.wasm_ast.specs.Built.{NamesNone, append}
-use Rattle.wasm_ast.specs.Position.{inner_sequences, sequence_at, behind, BeginsWith, IsList}
+use Rattle.wasm_ast.specs.Built.{NamesNone}
+use Rattle.wasm_ast.specs.Position.{inner_sequences, sequence_at, behind, IsInstrAt, IsList}
 use Rattle.wasm_ast.proofs.NumberingLemmas.{sequence-agree, list_names, past_end}
 
 -- each instruction that stands without inner instructions names no list
@@ -89,32 +88,17 @@ own-sequence F n (Block k of body rest) p a =
     block_front F k of n (sequence F (own_list (n + (1 + count body)) rest)) ∙ ap (λ b. Block k of b (sequence F (own_list (n + (1 + count body)) rest))) a.0 ∙ ap (λ r. Block k of body r) (own-sequence F (n + (1 + count body)) rest p.1 a.2)
 own-sequence F n (If of then otherwise rest) p a = let e = own-sequence F (n + (2 + count then + count otherwise)) rest p.2 a.4 in let f = a.0 in let g = a.2 in cc
 
-two_sections : (x x' y y' : Sequence) (xs xs' ys ys' zs zs' : List Sequence) → x ≡ x' → y ≡ y' → xs ≡ xs' → ys ≡ ys' → zs ≡ zs' → x ∷ xs ++ (y ∷ ys ++ zs) ≡ x' ∷ xs' ++ (y' ∷ ys' ++ zs')
-two_sections x x' y y' xs xs' ys ys' zs zs' p q r s t = cc
-
 -- those of its inner lists are its inner sequences
 pub inner-sequences : (F : ℕ → Sequence) (n : ℕ) (s : Sequence) → AllPlain s → Agrees F n s → map (sequence F) (inner_lists n s) ≡ inner_sequences s
 inner-sequences F n Empty p a = refl
 inner-sequences F n (Plain i rest) p a = inner-sequences F n rest p.1 a
 inner-sequences F n (Block k of body rest) p a =
-    let e = own-sequence F (n + 1) body p.0 a.1 in
-    let f = inner-sequences F (n + 1) body p.0 a.1 in
-    let g = inner-sequences F (n + (1 + count body)) rest p.1 a.2 in
-    let h = map-append (sequence F) (inner_lists (n + 1) body) (inner_lists (n + (1 + count body)) rest) in
-    cc
+    rw (map-append, own-sequence F (n + 1) body p.0 a.1, inner-sequences F (n + 1) body p.0 a.1, inner-sequences F (n + (1 + count body)) rest p.1 a.2) refl
 inner-sequences F n (If of then otherwise rest) p a =
-    let f = sequence F in
     let m = n + (2 + count then) in
-    let l = n + (2 + count then + count otherwise) in
-    let e1 = own-sequence F (n + 1) then p.0 a.1 in
-    let e2 = inner-sequences F (n + 1) then p.0 a.1 in
-    let e3 = own-sequence F m otherwise p.1 a.3 in
-    let e4 = inner-sequences F m otherwise p.1 a.3 in
-    let e5 = inner-sequences F l rest p.2 a.4 in
-    let h1 = map-append f (inner_lists (n + 1) then) (own_list m otherwise ∷ inner_lists m otherwise ++ inner_lists l rest) in
-    let h2 = map-append f (inner_lists m otherwise) (inner_lists l rest) in
-    ap (λ zs. f (own_list (n + 1) then) ∷ zs) (h1 ∙ ap (λ zs. map f (inner_lists (n + 1) then) ++ (f (own_list m otherwise) ∷ zs)) h2)
-    ∙ two_sections _ then _ otherwise _ (inner_sequences then) _ (inner_sequences otherwise) _ (inner_sequences rest) e1 e3 e2 e4 e5
+    let first = inner-sequences F (n + 1) then p.0 a.1 in
+    let second = inner-sequences F m otherwise p.1 a.3 in
+    rw (map-append, map-append, own-sequence F (n + 1) then p.0 a.1, first, own-sequence F m otherwise p.1 a.3, second, inner-sequences F (n + (2 + count then + count otherwise)) rest p.2 a.4) refl
 
 at_front : (front back : List Sequence) (s : Sequence) (n : ℕ) → length front ≡ n → get_or (front ++ s ∷ back) n Empty ≡ s
 at_front front back s n h = get_or-append_right front (s ∷ back) n n Empty h (omega arith) ∙ ap (λ k. get_or (s ∷ back) k Empty) {y = 0} (omega arith)
@@ -144,10 +128,10 @@ holds-agrees front back n (If of then otherwise rest) xs h e =
     let j = length-append third (inner_sequences otherwise) in
     let c = length-inner_sequences then in
     let d = length-inner_sequences otherwise in
-    let whole : xs ≡ second ++ otherwise ∷ ((inner_sequences otherwise ++ inner_sequences rest) ++ back) = e ∙ simp append_assoc in (
+    let parts : xs ≡ second ++ otherwise ∷ ((inner_sequences otherwise ++ inner_sequences rest) ++ back) = e ∙ simp append_assoc in (
       ap (λ ys. get_or ys n Empty) e ∙ at_front front ((inner_sequences then ++ (otherwise ∷ inner_sequences otherwise ++ inner_sequences rest)) ++ back) then n h,
       holds-agrees first ((otherwise ∷ inner_sequences otherwise ++ inner_sequences rest) ++ back) (n + 1) then xs (omega arith) (e ∙ simp append_assoc),
-      ap (λ ys. get_or ys (n + (1 + count then)) Empty) whole ∙ at_front second ((inner_sequences otherwise ++ inner_sequences rest) ++ back) otherwise (n + (1 + count then)) (omega arith),
+      ap (λ ys. get_or ys (n + (1 + count then)) Empty) parts ∙ at_front second ((inner_sequences otherwise ++ inner_sequences rest) ++ back) otherwise (n + (1 + count then)) (omega arith),
       holds-agrees third (inner_sequences rest ++ back) (n + (2 + count then)) otherwise xs (omega arith) (e ∙ simp append_assoc),
       holds-agrees fourth back (n + (2 + count then + count otherwise)) rest xs (omega arith) (e ∙ simp append_assoc),
     )
@@ -159,7 +143,7 @@ list-sequence s p n =
     sym (get_or-map (sequence (λ m. get_or all m Empty)) (inner_lists 0 s) n [])
     ∙ ap (λ xs. get_or xs n Empty) (inner-sequences (λ m. get_or all m Empty) 0 s p (holds-agrees [] [] 0 s all refl (sym (append-nil all))))
 
--- the same with the whole as number 0
+-- the same with the sequence itself as number 0
 pub lists-sequence : (s : Sequence) → AllPlain s → (n : ℕ) → sequence (sequence_at s) (list_at (lists_of s) n) ≡ sequence_at s n
 lists-sequence s p n =
     let F = λ (xs : List Sequence) (m : ℕ). get_or (s ∷ xs) m Empty in
@@ -273,8 +257,8 @@ is_list s lists n p e k =
 
 -- a place in a list
 module _ (s : Sequence) (n k : ℕ) (is : List Instr) (list : IsList s n is) where
-  pub begins_some : (i : Instr) → slice_get is k ≡ Some i → BeginsWith s (record { list = n; index = k }) (Some i)
-  begins_some i h =
+  pub instr_at_some : (i : Instr) → slice_get is k ≡ Some i → IsInstrAt s (record { list = n; index = k }) (Some i)
+  instr_at_some i h =
       list k ∙ ap (sequence (sequence_at s)) (drop_more is k i (slice_get_within is k i h) ∙ ap (λ j. j ∷ drop (k + 1) is) (get_or_from_slice_get is k i i h))
       ∙ ap (in_front (sequence_at s) i) (sym (list (k + 1)))
 
@@ -282,8 +266,8 @@ module _ (s : Sequence) (n k : ℕ) (is : List Instr) (list : IsList s n is) whe
   none_drops [] h = drop_all k [] (omega arith)
   none_drops (i ∷ is) h = ⊎_elim (λ l. absurd (let q = slice_get-get_or (i ∷ is) k i l in cc)) (λ l. drop_all k (i ∷ is) l) (cases_lt k (length (i ∷ is)))
 
-  pub begins_with : BeginsWith s (record { list = n; index = k }) (slice_get is k)
-  begins_with = begins (slice_get is k) refl where
-    begins : (o : Option Instr) → slice_get is k ≡ o → BeginsWith s (record { list = n; index = k }) o
-    begins None h = list k ∙ ap (sequence (sequence_at s)) (none_drops is h)
-    begins (Some i) h = begins_some i h
+  pub instr_at : IsInstrAt s (record { list = n; index = k }) (slice_get is k)
+  instr_at = at (slice_get is k) refl where
+    at : (o : Option Instr) → slice_get is k ≡ o → IsInstrAt s (record { list = n; index = k }) o
+    at None h = list k ∙ ap (sequence (sequence_at s)) (none_drops is h)
+    at (Some i) h = instr_at_some i h

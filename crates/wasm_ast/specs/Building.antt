@@ -1,6 +1,5 @@
 -- How a body that is being built lies in its lists.
-use Rattle.std.specs.Prelude.{◌≡◌, ℕ, List, [], ◌∷◌, map, Option, Some, None}
-use Rattle.wasm_ast.specs.declared.types.ValType.{ValType}
+use Rattle.std.specs.Prelude.{◌≡◌, ℕ, List, [], ◌∷◌, map, None}
 use Rattle.wasm_ast.specs.declared.instr.Instr.{Instr}
 use Rattle.wasm_ast.specs.declared.instr.BlockKind.TheVariants as kind
 use Rattle.wasm_ast.specs.declared.builder.Frame.{Frame}

@@ -2,9 +2,8 @@
 use Rattle.std.proofs.Common.{◌≡◌, Bool, true, false, List, [], ◌∷◌, Option, Some, None, refl}
 use Rattle.std.specs.Coded.{Coded, code_by, coded×, coded_list, coded_option}
 use Rattle.wasm_ast.specs.declared.types.ValType.{ValType}
-use Rattle.wasm_ast.specs.declared.instr.Instr.{Instr}
+use Rattle.wasm_ast.specs.declared.instr.{Instr.Instr, Construct.Construct}
 use Rattle.wasm_ast.specs.declared.instr.Instr.TheVariants as instr
-use Rattle.wasm_ast.specs.declared.instr.Construct.{Construct}
 use Rattle.wasm_ast.specs.declared.instr.Construct.TheVariants as construct
 use Rattle.wasm_ast.specs.contracts.types.ValType as valtype
 use Rattle.wasm_ast.specs.contracts.instr.Construct as constructs
@@ -83,14 +82,14 @@ else_opens os then = os
 abbrev pub with_else : Built → Built
 with_else v = record { opens = else_opens v.opens v.before; before = Empty }
 
--- a block, a loop, or an if without a second arm
-abbrev pub whole : Construct → Option ValType → Sequence → Sequence
-whole (construct.Block k) of body = Block k of body Empty
-whole construct.If of body = If of body Empty Empty
+-- the structured instruction over a body: a block, a loop, or an if without a second arm
+abbrev pub structured : Construct → Option ValType → Sequence → Sequence
+structured (construct.Block k) of body = Block k of body Empty
+structured construct.If of body = If of body Empty Empty
 
 -- what stands in front of a construct and then the construct, whose last sequence that is
 abbrev pub closed : Open → Sequence → Sequence
-closed (Inside c of before) s = append before (whole c of s)
+closed (Inside c of before) s = append before (structured c of s)
 closed (Else of then before) s = append before (If of then s Empty)
 
 -- a construct is open

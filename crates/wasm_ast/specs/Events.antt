@@ -1,8 +1,7 @@
 -- What comes one after another in the text of a sequence.
-use Rattle.std.specs.Prelude.{◌≡◌, Bool, true, false, List, [], ◌∷◌, ◌++◌, Option, Some, None}
+use Rattle.std.specs.Prelude.{Bool, true, false, List, [], ◌∷◌, ◌++◌, Option}
 use Rattle.wasm_ast.specs.declared.types.ValType.{ValType}
-use Rattle.wasm_ast.specs.declared.instr.Instr.{Instr}
-use Rattle.wasm_ast.specs.declared.instr.Construct.{Construct}
+use Rattle.wasm_ast.specs.declared.instr.{Instr.Instr, Construct.Construct}
 use Rattle.wasm_ast.specs.declared.instr.Construct.TheVariants as construct
 use Rattle.wasm_ast.specs.Sequence.{Sequence, Empty, Plain, Block, If}
 

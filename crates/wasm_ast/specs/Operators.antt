@@ -1,18 +1,14 @@
 -- What the operators of instructions take, give and move: WebAssembly Core 1.0, sections 2.4 and 3.3,
 -- and the threads proposal.
 use Rattle.std.specs.Prelude.{ℕ, Bool, true, false, List, [], ◌∷◌}
-use Rattle.wasm_ast.specs.declared.types.IntType.{IntType}
+use Rattle.wasm_ast.specs.declared.types.{IntType.IntType, ValType.ValType}
 use Rattle.wasm_ast.specs.declared.types.IntType.TheVariants as int
-use Rattle.wasm_ast.specs.declared.types.ValType.{ValType}
 use Rattle.wasm_ast.specs.declared.types.ValType.TheVariants.{I32, I64}
 use Rattle.wasm_ast.specs.declared.instr.ConvertOp.TheVariants.{Wrap, ExtendS, ExtendU}
-use Rattle.wasm_ast.specs.declared.instr.NumericOp.{NumericOp}
+use Rattle.wasm_ast.specs.declared.instr.{NumericOp.NumericOp, Form.Form, LoadOp.LoadOp, Access.Access}
 use Rattle.wasm_ast.specs.declared.instr.NumericOp.TheVariants.{Eqz, Compare, Unary, Binary, Convert}
-use Rattle.wasm_ast.specs.declared.instr.Form.{Form}
 use Rattle.wasm_ast.specs.declared.instr.Form.TheVariants as form
-use Rattle.wasm_ast.specs.declared.instr.LoadOp.{LoadOp}
 use Rattle.wasm_ast.specs.declared.instr.LoadOp.TheVariants as load
-use Rattle.wasm_ast.specs.declared.instr.Access.{Access}
 use Rattle.wasm_ast.specs.declared.instr.Access.TheVariants.{Load, Store, Notify, Wait, AtomicLoad, AtomicStore, AtomicRmw, AtomicCompareExchange}
 
 -- the value type of whole numbers
@@ -63,17 +59,11 @@ form_exponent form.I64Low32 = 2
 -- the type of the number that a load gives
 abbrev pub load_type : LoadOp → IntType
 load_type load.I32 = int.I32
-load_type load.I64 = int.I64
 load_type load.I32From8S = int.I32
 load_type load.I32From8U = int.I32
 load_type load.I32From16S = int.I32
 load_type load.I32From16U = int.I32
-load_type load.I64From8S = int.I64
-load_type load.I64From8U = int.I64
-load_type load.I64From16S = int.I64
-load_type load.I64From16U = int.I64
-load_type load.I64From32S = int.I64
-load_type load.I64From32U = int.I64
+load_type _ = int.I64
 
 -- the exponent of the number of bytes that a load reads, a power of 2
 abbrev pub load_exponent : LoadOp → ℕ
@@ -92,18 +82,12 @@ load_exponent load.I64From32U = 2
 
 -- whether what a load reads is extended by its sign, and not by zeros
 abbrev pub load_is_signed : LoadOp → Bool
-load_is_signed load.I32 = false
-load_is_signed load.I64 = false
 load_is_signed load.I32From8S = true
-load_is_signed load.I32From8U = false
 load_is_signed load.I32From16S = true
-load_is_signed load.I32From16U = false
 load_is_signed load.I64From8S = true
-load_is_signed load.I64From8U = false
 load_is_signed load.I64From16S = true
-load_is_signed load.I64From16U = false
 load_is_signed load.I64From32S = true
-load_is_signed load.I64From32U = false
+load_is_signed _ = false
 
 -- the exponent of the number of bytes that an access reads or writes, a power of 2; it is the
 -- exponent of its natural alignment too
@@ -122,12 +106,7 @@ access_exponent (AtomicCompareExchange of) = form_exponent of
 abbrev pub access_is_atomic : Access → Bool
 access_is_atomic (Load op) = false
 access_is_atomic (Store of) = false
-access_is_atomic Notify = true
-access_is_atomic (Wait of) = true
-access_is_atomic (AtomicLoad of) = true
-access_is_atomic (AtomicStore of) = true
-access_is_atomic (AtomicRmw op of) = true
-access_is_atomic (AtomicCompareExchange of) = true
+access_is_atomic _ = true
 
 -- what an access takes, the address below the others (3.3.4)
 abbrev pub access_operands : Access → List ValType

@@ -13,7 +13,7 @@ inner_sequences (Block k of body rest) = body ∷ inner_sequences body ++ inner_
 inner_sequences (If of then otherwise rest) =
     then ∷ inner_sequences then ++ (otherwise ∷ inner_sequences otherwise ++ inner_sequences rest)
 
--- The sequence of that number: 0 is the whole, and those inside it follow in the order of the text.
+-- The sequence of that number: 0 is the sequence itself, and those inside it follow in the order of the text.
 abbrev pub sequence_at : Sequence → ℕ → Sequence
 sequence_at s n = slice_index_or (s ∷ inner_sequences s) n Empty
 
@@ -33,11 +33,11 @@ remaining s p = behind p.index (sequence_at s p.list)
 abbrev pub next : Position → Position
 next p = record { list = p.list; index = p.index + 1 }
 
--- What is left at a place begins with the instruction, if any. Its inner sequences are those that
--- are left at the starts of the lists that it names.
-abbrev pub BeginsWith : Sequence → Position → Option Instr → Type 0
-BeginsWith s p None = remaining s p ≡ Empty
-BeginsWith s p (Some i) = remaining s p ≡ in_front (sequence_at s) i (remaining s (next p))
+-- That instruction, if any, is the one at a place: what is left there begins with it, and its inner
+-- sequences are those that are left at the starts of the lists that it names.
+abbrev pub IsInstrAt : Sequence → Position → Option Instr → Type 0
+IsInstrAt s p None = remaining s p ≡ Empty
+IsInstrAt s p (Some i) = remaining s p ≡ in_front (sequence_at s) i (remaining s (next p))
 
 -- these are the instructions of the list of that number, with the inner lists that they name
 abbrev pub IsList : Sequence → ℕ → List Instr → Type 0

@@ -1,9 +1,8 @@
 -- A sequence of instructions with its blocks inside it: WebAssembly Core 1.0, section 2.4.6.
-use Rattle.std.proofs.Common.{◌≡◌, ◌≢◌, ℕ, ap, arith, Option}
+use Rattle.std.proofs.Common.{◌≡◌, ap, Option}
 use Rattle.std.specs.Coded.{Coded, coded_option}
 use base.Stored.{Gv, gnil, gnum, gcons}
-use Rattle.wasm_ast.specs.declared.instr.Instr.{Instr}
-use Rattle.wasm_ast.specs.declared.instr.BlockKind.{BlockKind}
+use Rattle.wasm_ast.specs.declared.instr.{Instr.Instr, BlockKind.BlockKind}
 use Rattle.wasm_ast.specs.declared.types.ValType.{ValType}
 use Rattle.wasm_ast.specs.contracts.instr.Instr as instr
 use Rattle.wasm_ast.specs.contracts.instr.BlockKind as blockkind
@@ -43,26 +42,12 @@ stored (Plain i r) = gcons (gnum 1) (gcons (instr.the_row.coded.code i) (stored 
 stored (Block k t a r) = gcons (gnum 2) (gcons (kind_code k) (gcons (of_code t) (gcons (stored a) (stored r))))
 stored (If t a b r) = gcons (gnum 3) (gcons (of_code t) (gcons (stored a) (gcons (stored b) (stored r))))
 
-apart : (m n : ℕ) {a b : Gv} → gcons (gnum m) a ≡ gcons (gnum n) b → m ≢ n → ⊥
-apart m n p other = other (cc)
-
 pub stored_inj : (x y : Sequence) → stored x ≡ stored y → x ≡ y
 stored_inj Empty Empty p = λ i. Empty
-stored_inj Empty (Plain _ _) p = absurd (apart 0 1 p (omega arith))
-stored_inj Empty (Block _ _ _ _) p = absurd (apart 0 2 p (omega arith))
-stored_inj Empty (If _ _ _ _) p = absurd (apart 0 3 p (omega arith))
-stored_inj (Plain _ _) Empty p = absurd (apart 1 0 p (omega arith))
 stored_inj (Plain a r) (Plain b s) p = λ i. Plain (instr.the_row.coded.inj a b (ap (λ g. head (tail g)) p) i) (stored_inj r s (ap (λ g. tail (tail g)) p) i)
-stored_inj (Plain _ _) (Block _ _ _ _) p = absurd (apart 1 2 p (omega arith))
-stored_inj (Plain _ _) (If _ _ _ _) p = absurd (apart 1 3 p (omega arith))
-stored_inj (Block _ _ _ _) Empty p = absurd (apart 2 0 p (omega arith))
-stored_inj (Block _ _ _ _) (Plain _ _) p = absurd (apart 2 1 p (omega arith))
 stored_inj (Block k t a r) (Block l u b s) p = λ i. Block (blockkind.the_row.coded.inj k l (ap (λ g. head (tail g)) p) i) (of_inj t u (ap (λ g. head (tail (tail g))) p) i) (stored_inj a b (ap (λ g. head (tail (tail (tail g)))) p) i) (stored_inj r s (ap (λ g. tail (tail (tail (tail g)))) p) i)
-stored_inj (Block _ _ _ _) (If _ _ _ _) p = absurd (apart 2 3 p (omega arith))
-stored_inj (If _ _ _ _) Empty p = absurd (apart 3 0 p (omega arith))
-stored_inj (If _ _ _ _) (Plain _ _) p = absurd (apart 3 1 p (omega arith))
-stored_inj (If _ _ _ _) (Block _ _ _ _) p = absurd (apart 3 2 p (omega arith))
 stored_inj (If t a c r) (If u b d s) p = λ i. If (of_inj t u (ap (λ g. head (tail g)) p) i) (stored_inj a b (ap (λ g. head (tail (tail g))) p) i) (stored_inj c d (ap (λ g. head (tail (tail (tail g)))) p) i) (stored_inj r s (ap (λ g. tail (tail (tail (tail g)))) p) i)
+stored_inj _ _ p = cc
 
 abbrev pub sequence_code : Coded Sequence
 sequence_code = record { code = stored; inj = stored_inj }

@@ -1,17 +1,9 @@
 -- Modules in the binary format: WebAssembly Core 1.0, section 5.5.
 use Rattle.std.specs.Prelude.{◌≡◌, ◌⊎◌, ℕ, ◌+◌, ◌<◌, ◌≤◌, ◌^◌, ◌==◌, if◌then◌else◌, List, [], ◌∷◌, ◌++◌, length, Option, Some, None, MatchOption}
 use Rattle.wasm_ast.specs.declared.locals.LocalGroup.{LocalGroup}
-use Rattle.wasm_ast.specs.declared.module.ImportKind.{ImportKind}
+use Rattle.wasm_ast.specs.declared.module.{ImportKind.ImportKind, Import.Import, GlobalVar.GlobalVar, ExportKind.ExportKind, Export.Export, Element.Element, Segment.Segment, Code.Code, Module.Module}
 use Rattle.wasm_ast.specs.declared.module.ImportKind.TheVariants as imported
-use Rattle.wasm_ast.specs.declared.module.Import.{Import}
-use Rattle.wasm_ast.specs.declared.module.GlobalVar.{GlobalVar}
-use Rattle.wasm_ast.specs.declared.module.ExportKind.{ExportKind}
 use Rattle.wasm_ast.specs.declared.module.ExportKind.TheVariants as exported
-use Rattle.wasm_ast.specs.declared.module.Export.{Export}
-use Rattle.wasm_ast.specs.declared.module.Element.{Element}
-use Rattle.wasm_ast.specs.declared.module.Segment.{Segment}
-use Rattle.wasm_ast.specs.declared.module.Code.{Code}
-use Rattle.wasm_ast.specs.declared.module.Module.{Module}
 use Rattle.wasm_ast.specs.Locals.{total, added}
 use Rattle.wasm_ast.specs.Spelling.{Joined, Behind, SpellsU32, SpellsEach, SpellsVec, SpellsBytes, SpellsName, Sized}
 use Rattle.wasm_ast.specs.SpelledTypes.{SpellsValType, SpellsFuncType, SpellsMemory, SpellsTable, SpellsGlobalType}

@@ -1,9 +1,7 @@
 -- Types in the binary format: WebAssembly Core 1.0, section 5.3, and the threads proposal.
 use Rattle.std.specs.Prelude.{◌≡◌, ℕ, Bool, true, false, if◌then◌else◌, List, [], ◌∷◌, Option, Some, None}
-use Rattle.wasm_ast.specs.declared.types.ValType.{ValType}
+use Rattle.wasm_ast.specs.declared.types.{ValType.ValType, FuncType.FuncType, Limits.Limits}
 use Rattle.wasm_ast.specs.declared.types.ValType.TheVariants.{I32, I64, F32, F64}
-use Rattle.wasm_ast.specs.declared.types.FuncType.{FuncType}
-use Rattle.wasm_ast.specs.declared.types.Limits.{Limits}
 use Rattle.wasm_ast.specs.Spelling.{Joined, Behind, SpellsU32, SpellsVec}
 
 -- valtype (5.3.1)

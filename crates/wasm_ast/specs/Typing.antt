@@ -2,16 +2,12 @@
 -- manner of the algorithm in the appendix, section 7.3.
 use Rattle.std.specs.Prelude.{ℕ, zero, suc, ◌-◌, nat_lt, nat_le, ◌==◌, Bool, true, false, ◌&&◌, if◌then◌else◌, List, [], ◌∷◌, slice_get, Option, Some, None, option_and_then, option_to_list}
 use Rattle.std.specs.List.{list_all}
-use Rattle.wasm_ast.specs.declared.types.ValType.{ValType}
+use Rattle.wasm_ast.specs.declared.types.{ValType.ValType, FuncType.FuncType}
 use Rattle.wasm_ast.specs.declared.types.ValType.TheVariants.{I32, I64}
-use Rattle.wasm_ast.specs.declared.types.FuncType.{FuncType}
 use Rattle.wasm_ast.specs.declared.locals.LocalGroup.{LocalGroup}
-use Rattle.wasm_ast.specs.declared.instr.Access.{Access}
-use Rattle.wasm_ast.specs.declared.instr.VariableOp.{VariableOp}
+use Rattle.wasm_ast.specs.declared.instr.{Access.Access, VariableOp.VariableOp, Instr.Instr, BlockKind.BlockKind}
 use Rattle.wasm_ast.specs.declared.instr.VariableOp.TheVariants.{LocalGet, LocalSet, LocalTee, GlobalGet, GlobalSet}
-use Rattle.wasm_ast.specs.declared.instr.Instr.{Instr}
 use Rattle.wasm_ast.specs.declared.instr.Instr.TheVariants as instr
-use Rattle.wasm_ast.specs.declared.instr.BlockKind.{BlockKind}
 use Rattle.wasm_ast.specs.declared.instr.BlockKind.TheVariants as kind
 use Rattle.wasm_ast.specs.Types.{same_type}
 use Rattle.wasm_ast.specs.Operators.{numeric_operands, numeric_result, access_exponent, access_is_atomic, access_operands, access_results}

@@ -2,24 +2,14 @@
 use Rattle.std.specs.Prelude.{ℕ, ◌+◌, nat_lt, nat_le, ◌^◌, Bool, true, false, ◌&&◌, not, if◌then◌else◌, List, [], ◌∷◌, ◌++◌, length, map, slice_get, Option, Some, None, option_and_then}
 use Rattle.std.specs.List.{list_all, list_any}
 use Rattle.std.specs.Str.{bytes_eq}
-use Rattle.wasm_ast.specs.declared.types.ValType.{ValType}
+use Rattle.wasm_ast.specs.declared.types.{ValType.ValType, FuncType.FuncType, Limits.Limits}
 use Rattle.wasm_ast.specs.declared.types.ValType.TheVariants.{I32}
-use Rattle.wasm_ast.specs.declared.types.FuncType.{FuncType}
-use Rattle.wasm_ast.specs.declared.types.Limits.{Limits}
 use Rattle.wasm_ast.specs.declared.instr.Instr.{Instr}
 use Rattle.wasm_ast.specs.declared.instr.Instr.TheVariants as instr
 use Rattle.wasm_ast.specs.declared.instr.VariableOp.TheVariants.{GlobalGet}
-use Rattle.wasm_ast.specs.declared.module.ImportKind.{ImportKind}
+use Rattle.wasm_ast.specs.declared.module.{ImportKind.ImportKind, Import.Import, GlobalVar.GlobalVar, ExportKind.ExportKind, Export.Export, Element.Element, Segment.Segment, Code.Code, Module.Module}
 use Rattle.wasm_ast.specs.declared.module.ImportKind.TheVariants as imported
-use Rattle.wasm_ast.specs.declared.module.Import.{Import}
-use Rattle.wasm_ast.specs.declared.module.GlobalVar.{GlobalVar}
-use Rattle.wasm_ast.specs.declared.module.ExportKind.{ExportKind}
 use Rattle.wasm_ast.specs.declared.module.ExportKind.TheVariants as exported
-use Rattle.wasm_ast.specs.declared.module.Export.{Export}
-use Rattle.wasm_ast.specs.declared.module.Element.{Element}
-use Rattle.wasm_ast.specs.declared.module.Segment.{Segment}
-use Rattle.wasm_ast.specs.declared.module.Code.{Code}
-use Rattle.wasm_ast.specs.declared.module.Module.{Module}
 use Rattle.wasm_ast.specs.Sequence.{Sequence, Empty, Plain}
 use Rattle.wasm_ast.specs.Typing.{Context, is_body}
 

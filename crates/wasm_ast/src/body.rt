@@ -1,6 +1,6 @@
 // The instructions of a function or of an initial value, with their blocks.
 ghost use Rattle.std.specs.Prelude.{◌≡◌, ◌+◌, ◌<◌, ◌^◌, IfOk, IsSome, option_copied};
-ghost use Rattle.wasm_ast.specs.Position.{BeginsWith, IsList};
+ghost use Rattle.wasm_ast.specs.Position.{IsInstrAt, IsList};
 
 use super::instr::Instr;
 use super::items::Items;
@@ -64,7 +64,7 @@ impl Body {
 
     /// The instruction at a place, if it isn't at the end of its list.
     pub fn at(&self, position: Position) -> Option<&Instr>
-        ensures value { BeginsWith self.now position (option_copied result) }
+        ensures value { IsInstrAt self.now position (option_copied result) }
         ensures room { IsSome result → position.index + 1 < 2 ^ 64 }
     {
         self.list(position.list).get(position.index)

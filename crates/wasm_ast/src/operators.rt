@@ -79,13 +79,7 @@ impl LoadOp {
             | LoadOp::I32From8U
             | LoadOp::I32From16S
             | LoadOp::I32From16U => IntType::I32,
-            LoadOp::I64
-            | LoadOp::I64From8S
-            | LoadOp::I64From8U
-            | LoadOp::I64From16S
-            | LoadOp::I64From16U
-            | LoadOp::I64From32S
-            | LoadOp::I64From32U => IntType::I64,
+            _ => IntType::I64,
         }
     }
 
@@ -105,20 +99,14 @@ impl LoadOp {
     pub fn is_signed(self) -> bool
         ensures { result ≡ load_is_signed self }
     {
-        match self {
+        matches!(
+            self,
             LoadOp::I32From8S
-            | LoadOp::I32From16S
-            | LoadOp::I64From8S
-            | LoadOp::I64From16S
-            | LoadOp::I64From32S => true,
-            LoadOp::I32
-            | LoadOp::I64
-            | LoadOp::I32From8U
-            | LoadOp::I32From16U
-            | LoadOp::I64From8U
-            | LoadOp::I64From16U
-            | LoadOp::I64From32U => false,
-        }
+                | LoadOp::I32From16S
+                | LoadOp::I64From8S
+                | LoadOp::I64From16S
+                | LoadOp::I64From32S
+        )
     }
 }
 
@@ -144,15 +132,7 @@ impl Access {
     pub fn is_atomic(self) -> bool
         ensures { result ≡ access_is_atomic self }
     {
-        match self {
-            Access::Load(_) | Access::Store(_) => false,
-            Access::Notify
-            | Access::Wait(_)
-            | Access::AtomicLoad(_)
-            | Access::AtomicStore(_)
-            | Access::AtomicRmw(_, _)
-            | Access::AtomicCompareExchange(_) => true,
-        }
+        !matches!(self, Access::Load(_) | Access::Store(_))
     }
 
     /// What the access takes, the address below the others (3.3.4).

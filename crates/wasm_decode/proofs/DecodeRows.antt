@@ -3,9 +3,8 @@ use Rattle.std.proofs.Common.{◌≡◌, ◌⊎◌, inl, inr, ℕ, ◌<◌, List
 use Rattle.std.specs.Prelude.{IfOk}
 use Rattle.wasm_ast.specs.declared.module.Module.{Module}
 use Rattle.wasm_ast.specs.SpelledModule.{SpellsModule}
-use Rattle.wasm_decode.specs.declared.fault.Bound.{Bound}
+use Rattle.wasm_decode.specs.declared.fault.{Bound.Bound, DecodeFault.DecodeFault}
 use Rattle.wasm_decode.specs.declared.fault.Bound.TheVariants.{Length, Types, Functions, Locals, Nesting, Table, Pages}
-use Rattle.wasm_decode.specs.declared.fault.DecodeFault.{DecodeFault}
 use Rattle.wasm_decode.specs.declared.fault.DecodeFault.TheVariants.{Malformed, Float, Limit, Memory}
 use Rattle.wasm_decode.specs.Floats.{module_has_float}
 use Rattle.wasm_decode.specs.Bounds.{most_bytes, first_passed}
@@ -15,18 +14,9 @@ use Rattle.wasm_decode.specs.Judged.{unless_passed, judged}
 abbrev Answer : Type 0
 Answer = Result Module DecodeFault
 
-not_length : (a b c d g f : Bool) → (if a then Some Types else (if b then Some Functions else (if c then Some Locals else (if d then Some Nesting else (if g then Some Table else (if f then Some Pages else None)))))) ≡ Some Length → ⊥
-not_length true b c d g f e = cc
-not_length false true c d g f e = cc
-not_length false false true d g f e = cc
-not_length false false false true g f e = cc
-not_length false false false false true f e = cc
-not_length false false false false false true e = cc
-not_length false false false false false false e = cc
-
 -- the limits of a module don't include that of its bytes
 never_length : (m : Module) → first_passed m ≡ Some Length → ⊥
-never_length m e = not_length _ _ _ _ _ _ e
+never_length m e = grind arith
 
 judged_rows : (bytes : List ℕ) (m : Module) (b : Bool) (p : Option Bound) → module_has_float m ≡ b → first_passed m ≡ p → AreWithin bytes → SpellsModule bytes m → Decodes bytes (if b then Err Float else unless_passed m p)
 judged_rows bytes m true p f q w s = (w, (m, s, f))
@@ -88,33 +78,9 @@ module _ (bytes : List ℕ) (one : (m n : Module) → SpellsModule bytes m → S
   rows_agree r a not (inr p) (inl q) = absurd (omega (arith, p.0, q.0))
   rows_agree r a not (inr p) (inr q) = reads_agree r a not p.1 q.1
 
-  agree : (r a : Answer) → (a ≡ Err Memory → ⊥) → Decodes bytes r → Decodes bytes a → IsUnlessMemory r a
+  -- an answer that is right comes, unless there is want of memory
+  pub agree : (r a : Answer) → (a ≡ Err Memory → ⊥) → Decodes bytes r → Decodes bytes a → IsUnlessMemory r a
   agree r a not d e = rows_agree r a not (row bytes r d) (row bytes a e)
-
-  no_module : (m : Module) → ◌≡◌ {A = Answer} (Ok m) (Err Memory) → ⊥
-  no_module m e = cc
-
-  not_malformed : ◌≡◌ {A = Answer} (Err Malformed) (Err Memory) → ⊥
-  not_malformed e = cc
-
-  not_float : ◌≡◌ {A = Answer} (Err Float) (Err Memory) → ⊥
-  not_float e = cc
-
-  not_limit : (bound : Bound) → ◌≡◌ {A = Answer} (Err (Limit bound)) (Err Memory) → ⊥
-  not_limit bound e = cc
-
-  -- each answer that is right comes, unless there is want of memory
-  pub module_comes : (r : Answer) → Decodes bytes r → (m : Module) → SpellsModest bytes m → IsUnlessMemory r (Ok m)
-  module_comes r d m s = agree r (Ok m) (no_module m) d s
-
-  pub malformed_comes : (r : Answer) → Decodes bytes r → SpellsNone bytes → IsUnlessMemory r (Err Malformed)
-  malformed_comes r d s = agree r (Err Malformed) not_malformed d s
-
-  pub float_comes : (r : Answer) → Decodes bytes r → SpellsFloat bytes → IsUnlessMemory r (Err Float)
-  float_comes r d s = agree r (Err Float) not_float d s
-
-  pub limit_comes : (r : Answer) → Decodes bytes r → (bound : Bound) → Passes bytes bound → IsUnlessMemory r (Err (Limit bound))
-  limit_comes r d bound s = agree r (Err (Limit bound)) (not_limit bound) d s
 
 pub module_row : (bytes : List ℕ) (r : Answer) → Decodes bytes r → IfOk r (SpellsModest bytes)
 module_row bytes (Ok m) d = d

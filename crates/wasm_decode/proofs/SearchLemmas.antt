@@ -4,6 +4,7 @@ use Rattle.std.specs.Prelude.{min, max}
 use Rattle.std.specs.List.{list_any}
 use Rattle.std.proofs.lemmas.Bool.{cases_lt}
 use Rattle.std.proofs.lemmas.List.{append-nil}
+use Rattle.std.proofs.lemmas.List.Folds.{list_any-append}
 use Rattle.wasm_ast.specs.Sequence.{Sequence, Empty, Plain, Block, If}
 use Rattle.wasm_ast.specs.Events.{Event, Instruction, Begin, Else, End, is_empty, events}
 use Rattle.wasm_decode.specs.Floats.{block_is_float, has_float}
@@ -15,31 +16,23 @@ or_assoc : (a b c : Bool) → ((a || b) || c) ≡ (a || (b || c))
 or_assoc true b c = refl
 or_assoc false b c = refl
 
-any_append : (es fs : List Event) → list_any event_is_float (es ++ fs) ≡ (list_any event_is_float es || list_any event_is_float fs)
-any_append [] fs = refl
-any_append (e ∷ es) fs = ap (λ b. event_is_float e || b) (any_append es fs) ∙ sym (or_assoc (event_is_float e) (list_any event_is_float es) (list_any event_is_float fs))
-
 -- a float among the events is one of the sequence
 pub float_events : (s : Sequence) → list_any event_is_float (events s) ≡ has_float s
 float_events Empty = refl
 float_events (Plain i rest) = ap (λ b. event_is_float (Instruction i) || b) (float_events rest)
 float_events (Block k of body rest) =
-    ap (λ b. block_is_float of || b) (any_append (events body) (End ∷ events rest) ∙ ap (λ b. b || list_any event_is_float (events rest)) (float_events body) ∙ ap (λ b. has_float body || b) (float_events rest))
-    ∙ sym (or_assoc (block_is_float of) (has_float body) (has_float rest))
+    rw (list_any-append event_is_float (events body) (End ∷ events rest), float_events body, float_events rest) (sym (or_assoc (block_is_float of) (has_float body) (has_float rest)))
 float_events (If of first second rest) =
-    ap (λ b. block_is_float of || b)
-    (any_append (events first) (Else (is_empty second) ∷ events second ++ (End ∷ events rest))
-    ∙ ap (λ b. b || list_any event_is_float (events second ++ (End ∷ events rest))) (float_events first)
-    ∙ ap (λ b. has_float first || b) (any_append (events second) (End ∷ events rest) ∙ ap (λ b. b || list_any event_is_float (events rest)) (float_events second) ∙ ap (λ b. has_float second || b) (float_events rest))
-    ∙ sym (or_assoc (has_float first) (has_float second) (has_float rest)))
-    ∙ sym (or_assoc (block_is_float of) (has_float first || has_float second) (has_float rest))
+    let a = list_any-append event_is_float (events first) (Else (is_empty second) ∷ events second ++ (End ∷ events rest)) in
+    let b = list_any-append event_is_float (events second) (End ∷ events rest) in
+    rw (a, b, float_events first, float_events second, float_events rest, or_assoc (block_is_float of) (has_float first || has_float second) (has_float rest), or_assoc (has_float first) (has_float second) (has_float rest)) refl
 
 past_max : (n d e : ℕ) → nat_lt 256 (n + max d e) ≡ (nat_lt 256 (n + d) || nat_lt 256 (n + e))
 past_max n d e = grind arith
 
 -- a construct begins where so many are open
-begins : (n d : ℕ) (inside : ℕ → Bool) (x : Bool) → n ≤ 256 → (n < 256 → inside (n + 1) ≡ (nat_lt 256 ((n + 1) + d) || x)) → (nat_lt 255 n || inside (min 256 (n + 1))) ≡ (nat_lt 256 (n + (1 + d)) || x)
-begins n d inside x h k =
+construct_deep : (n d : ℕ) (inside : ℕ → Bool) (x : Bool) → n ≤ 256 → (n < 256 → inside (n + 1) ≡ (nat_lt 256 ((n + 1) + d) || x)) → (nat_lt 255 n || inside (min 256 (n + 1))) ≡ (nat_lt 256 (n + (1 + d)) || x)
+construct_deep n d inside x h k =
     ⊎_elim
     (λ (l : n < 256).
     let low : nat_lt 255 n ≡ false = grind arith in
@@ -53,35 +46,31 @@ begins n d inside x h k =
 
 -- at most 256 are open, and then a sequence comes
 deep_behind : (s : Sequence) (n : ℕ) (es : List Event) → n ≤ 256 → is_deep_from n (events s ++ es) ≡ (nat_lt 256 (n + depth s) || is_deep_from n es)
-deep_behind Empty n es h =
-    let low : nat_lt 256 (n + 0) ≡ false = grind arith in
-    ap (λ b. b || is_deep_from n es) (sym low)
+deep_behind Empty n es h = grind arith
 deep_behind (Plain i rest) n es h = deep_behind rest n es h
 deep_behind (Block k of body rest) n es h =
     let d = depth body in
     let x = is_deep_from n es in
     let back : (n + 1) - 1 ≡ n = omega arith in
-    ap (λ fs. nat_lt 255 n || is_deep_from (min 256 (n + 1)) fs) (append_assoc (events body) (End ∷ events rest) es)
-    ∙ begins n d (λ m. is_deep_from m (events body ++ (End ∷ (events rest ++ es)))) (nat_lt 256 (n + depth rest) || x) h
-    (λ l. deep_behind body (n + 1) (End ∷ (events rest ++ es)) (omega arith) ∙ ap (λ m. nat_lt 256 ((n + 1) + d) || is_deep_from m (events rest ++ es)) back ∙ ap (λ b. nat_lt 256 ((n + 1) + d) || b) (deep_behind rest n es h))
-    ∙ sym (or_assoc (nat_lt 256 (n + (1 + d))) (nat_lt 256 (n + depth rest)) x)
-    ∙ ap (λ b. b || x) (sym (past_max n (1 + d) (depth rest)))
+    rw (append_assoc (events body) (End ∷ events rest) es, past_max n (1 + d) (depth rest), or_assoc (nat_lt 256 (n + (1 + d))) (nat_lt 256 (n + depth rest)) x)
+    (construct_deep n d (λ m. is_deep_from m (events body ++ (End ∷ (events rest ++ es)))) (nat_lt 256 (n + depth rest) || x) h
+    (λ l. rw (deep_behind body (n + 1) (End ∷ (events rest ++ es)) (omega arith), back, deep_behind rest n es h) refl))
 deep_behind (If of first second rest) n es h =
     let d = depth first in
     let e = depth second in
     let x = is_deep_from n es in
     let y = nat_lt 256 (n + depth rest) || x in
     let back : (n + 1) - 1 ≡ n = omega arith in
-    ap (λ fs. nat_lt 255 n || is_deep_from (min 256 (n + 1)) fs)
-    (append_assoc (events first) (Else (is_empty second) ∷ events second ++ (End ∷ events rest)) es ∙ ap (λ fs. events first ++ (Else (is_empty second) ∷ fs)) (append_assoc (events second) (End ∷ events rest) es))
-    ∙ begins n (max d e) (λ m. is_deep_from m (events first ++ (Else (is_empty second) ∷ (events second ++ (End ∷ (events rest ++ es)))))) y h
+    let behind = Else (is_empty second) ∷ (events second ++ (End ∷ (events rest ++ es))) in
+    rw (
+      append_assoc (events first) (Else (is_empty second) ∷ events second ++ (End ∷ events rest)) es,
+      append_assoc (events second) (End ∷ events rest) es,
+      past_max n (1 + max d e) (depth rest),
+      or_assoc (nat_lt 256 (n + (1 + max d e))) (nat_lt 256 (n + depth rest)) x,
+    )
+    (construct_deep n (max d e) (λ m. is_deep_from m (events first ++ behind)) y h
     (λ l.
-    deep_behind first (n + 1) (Else (is_empty second) ∷ (events second ++ (End ∷ (events rest ++ es)))) (omega arith)
-    ∙ ap (λ b. nat_lt 256 ((n + 1) + d) || b)
-    (deep_behind second (n + 1) (End ∷ (events rest ++ es)) (omega arith) ∙ ap (λ m. nat_lt 256 ((n + 1) + e) || is_deep_from m (events rest ++ es)) back ∙ ap (λ b. nat_lt 256 ((n + 1) + e) || b) (deep_behind rest n es h))
-    ∙ sym (or_assoc (nat_lt 256 ((n + 1) + d)) (nat_lt 256 ((n + 1) + e)) y) ∙ ap (λ b. b || y) (sym (past_max (n + 1) d e)))
-    ∙ sym (or_assoc (nat_lt 256 (n + (1 + max d e))) (nat_lt 256 (n + depth rest)) x)
-    ∙ ap (λ b. b || x) (sym (past_max n (1 + max d e) (depth rest)))
+    rw (deep_behind first (n + 1) behind (omega arith), deep_behind second (n + 1) (End ∷ (events rest ++ es)) (omega arith), back, deep_behind rest n es h, past_max (n + 1) d e, or_assoc (nat_lt 256 ((n + 1) + d)) (nat_lt 256 ((n + 1) + e)) y) refl))
 
 or_false : (b : Bool) → (b || false) ≡ b
 or_false true = refl

@@ -1,11 +1,7 @@
 -- The sequences of instructions of a module: WebAssembly Core 1.0, section 2.5.
 use Rattle.std.specs.Prelude.{Bool, ◌||◌}
 use Rattle.std.specs.List.{list_any}
-use Rattle.wasm_ast.specs.declared.module.GlobalVar.{GlobalVar}
-use Rattle.wasm_ast.specs.declared.module.Element.{Element}
-use Rattle.wasm_ast.specs.declared.module.Segment.{Segment}
-use Rattle.wasm_ast.specs.declared.module.Code.{Code}
-use Rattle.wasm_ast.specs.declared.module.Module.{Module}
+use Rattle.wasm_ast.specs.declared.module.{GlobalVar.GlobalVar, Element.Element, Segment.Segment, Code.Code, Module.Module}
 use Rattle.wasm_ast.specs.Sequence.{Sequence}
 
 -- One of them has the property: the first value of a global, the offset of an element or data segment,

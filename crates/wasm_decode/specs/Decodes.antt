@@ -2,9 +2,8 @@
 use Rattle.std.specs.Prelude.{◌≡◌, ◌⊎◌, ℕ, ◌<◌, ◌≤◌, true, false, List, length, Some, None, Result, Ok, Err}
 use Rattle.wasm_ast.specs.declared.module.Module.{Module}
 use Rattle.wasm_ast.specs.SpelledModule.{SpellsModule}
-use Rattle.wasm_decode.specs.declared.fault.Bound.{Bound}
+use Rattle.wasm_decode.specs.declared.fault.{Bound.Bound, DecodeFault.DecodeFault}
 use Rattle.wasm_decode.specs.declared.fault.Bound.TheVariants.{Length}
-use Rattle.wasm_decode.specs.declared.fault.DecodeFault.{DecodeFault}
 use Rattle.wasm_decode.specs.declared.fault.DecodeFault.TheVariants.{Malformed, Float, Limit, Memory}
 use Rattle.wasm_decode.specs.Floats.{module_has_float}
 use Rattle.wasm_decode.specs.Bounds.{most_bytes, first_passed}

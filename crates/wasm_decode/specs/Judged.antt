@@ -1,8 +1,7 @@
 -- The answer for a module that was read.
 use Rattle.std.specs.Prelude.{if◌then◌else◌, Option, Some, None, Result, Ok, Err}
 use Rattle.wasm_ast.specs.declared.module.Module.{Module}
-use Rattle.wasm_decode.specs.declared.fault.Bound.{Bound}
-use Rattle.wasm_decode.specs.declared.fault.DecodeFault.{DecodeFault}
+use Rattle.wasm_decode.specs.declared.fault.{Bound.Bound, DecodeFault.DecodeFault}
 use Rattle.wasm_decode.specs.declared.fault.DecodeFault.TheVariants.{Float, Limit}
 use Rattle.wasm_decode.specs.Floats.{module_has_float}
 use Rattle.wasm_decode.specs.Bounds.{first_passed}

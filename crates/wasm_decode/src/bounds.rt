@@ -92,12 +92,7 @@ fn any_has_many(types: &[FuncType], functions: &[u32], codes: &[Code]) -> bool
 fn any_is_larger(limits: &[Limits], most: u32) -> bool
     ensures { result ≡ list_any (λ (l : Limits). nat_lt most l.min) limits.now }
 {
-    for l in limits {
-        if l.min > most {
-            return true;
-        }
-    }
-    false
+    limits.iter().any(|l| l.min > most)
 }
 
 fn import_is_large(kind: ImportKind) -> bool
@@ -113,12 +108,7 @@ fn import_is_large(kind: ImportKind) -> bool
 fn any_import_is_large(imports: &[Import]) -> bool
     ensures { result ≡ list_any (λ (i : Import). import_is_large i.kind) imports.now }
 {
-    for import in imports {
-        if import_is_large(import.kind) {
-            return true;
-        }
-    }
-    false
+    imports.iter().any(|import| import_is_large(import.kind))
 }
 
 fn import_has_many_pages(kind: ImportKind) -> bool
@@ -134,12 +124,9 @@ fn import_has_many_pages(kind: ImportKind) -> bool
 fn any_import_has_many_pages(imports: &[Import]) -> bool
     ensures { result ≡ list_any (λ (i : Import). import_has_many_pages i.kind) imports.now }
 {
-    for import in imports {
-        if import_has_many_pages(import.kind) {
-            return true;
-        }
-    }
-    false
+    imports
+        .iter()
+        .any(|import| import_has_many_pages(import.kind))
 }
 
 /// The first limit that a module passes, where it is known whether its blocks are nested too deep.

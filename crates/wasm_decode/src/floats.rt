@@ -3,9 +3,7 @@
 ghost use Rattle.std.specs.Prelude.{◌≡◌};
 ghost use Rattle.std.specs.List.{list_any};
 ghost use Rattle.wasm_ast.specs.declared.locals.LocalGroup.{LocalGroup};
-ghost use Rattle.wasm_ast.specs.declared.module.Import.{Import};
-ghost use Rattle.wasm_ast.specs.declared.module.GlobalVar.{GlobalVar};
-ghost use Rattle.wasm_ast.specs.declared.module.Code.{Code};
+ghost use Rattle.wasm_ast.specs.declared.module.{Import.Import, GlobalVar.GlobalVar, Code.Code};
 ghost use Rattle.wasm_decode.specs.Floats.{is_float, block_is_float, type_has_float, import_is_float, types_have_float};
 
 use wasm_ast::{Code, FuncType, GlobalVar, Import, ImportKind, LocalGroup, Module, ValType};
@@ -29,24 +27,14 @@ pub(crate) fn block_is_float(of: Option<ValType>) -> bool
 fn any_is_float(types: &[ValType]) -> bool
     ensures { result ≡ list_any is_float types.now }
 {
-    for of in types {
-        if is_float(*of) {
-            return true;
-        }
-    }
-    false
+    types.iter().any(|of| is_float(*of))
 }
 
 /// Whether a function of one of the types takes or gives a float.
 fn any_type_has_float(types: &[FuncType]) -> bool
     ensures { result ≡ list_any type_has_float types.now }
 {
-    for of in types {
-        if any_is_float(of.params.as_slice()) || any_is_float(of.results.as_slice()) {
-            return true;
-        }
-    }
-    false
+    types.iter().any(|of| any_is_float(of.params.as_slice()) || any_is_float(of.results.as_slice()))
 }
 
 fn import_is_float(kind: ImportKind) -> bool
@@ -62,46 +50,28 @@ fn import_is_float(kind: ImportKind) -> bool
 fn any_import_is_float(imports: &[Import]) -> bool
     ensures { result ≡ list_any (λ (i : Import). import_is_float i.kind) imports.now }
 {
-    for import in imports {
-        if import_is_float(import.kind) {
-            return true;
-        }
-    }
-    false
+    imports.iter().any(|import| import_is_float(import.kind))
 }
 
 fn any_global_is_float(globals: &[GlobalVar]) -> bool
     ensures { result ≡ list_any (λ (g : GlobalVar). is_float g.of) globals.now }
 {
-    for global in globals {
-        if is_float(global.of) {
-            return true;
-        }
-    }
-    false
+    globals.iter().any(|global| is_float(global.of))
 }
 
 fn any_local_is_float(groups: &[LocalGroup]) -> bool
     ensures { result ≡ list_any (λ (g : LocalGroup). is_float g.of) groups.now }
 {
-    for group in groups {
-        if is_float(group.of) {
-            return true;
-        }
-    }
-    false
+    groups.iter().any(|group| is_float(group.of))
 }
 
 /// Whether a local of one of the functions holds a float.
 fn any_code_has_float(codes: &[Code]) -> bool
     ensures { result ≡ list_any (λ (c : Code). list_any (λ (g : LocalGroup). is_float g.of) c.locals) codes.now }
 {
-    for code in codes {
-        if any_local_is_float(code.locals.groups()) {
-            return true;
-        }
-    }
-    false
+    codes
+        .iter()
+        .any(|code| any_local_is_float(code.locals.groups()))
 }
 
 /// Whether a type that the module has, apart from those of its blocks, is one of floating-point numbers.

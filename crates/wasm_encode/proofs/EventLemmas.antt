@@ -1,11 +1,10 @@
 -- A sequence is written event by event.
-use Rattle.std.proofs.Common.{◌≡◌, ℕ, true, false, List, [], ◌∷◌, ◌++◌, refl, sym, ap, ◌∙◌, append_assoc}
+use Rattle.std.proofs.Common.{◌≡◌, ℕ, List, ◌∷◌, ◌++◌, refl, sym, ap, ◌∙◌, append_assoc}
 use Rattle.std.specs.List.{flat_map}
 use Rattle.std.proofs.lemmas.Grind.{flat_map-append}
 use Rattle.std.proofs.lemmas.List.Concat.{flat_map-cons}
 use Rattle.wasm_ast.specs.Sequence.{Sequence, Empty, Plain, Block, If}
-use Rattle.wasm_ast.specs.Events.{Event, Instruction, Begin, Else, End, is_empty, events}
-use Rattle.wasm_ast.specs.Opcodes.{construct_byte, block_byte}
+use Rattle.wasm_ast.specs.Events.{Event, Instruction, Else, End, is_empty, events}
 use Rattle.wasm_ast.specs.CanonInstr.{block_type_byte, canon_plain, canon_else, canon_sequence}
 use Rattle.wasm_encode.specs.CanonEvents.{canon_event}
 
@@ -22,17 +21,14 @@ arm_written (If of then otherwise rest) w back p = ap (λ x. 0x05 ∷ (x ++ back
 pub canon_events : (s : Sequence) → written (events s) ≡ canon_sequence s
 canon_events Empty = refl
 canon_events (Plain i rest) = flat_map-cons canon_event (Instruction i) (events rest) ∙ ap (λ w. canon_plain i ++ w) (canon_events rest)
-canon_events (Block k of body rest) =
-    ap (λ w. block_byte k ∷ block_type_byte of ∷ w)
-    (flat_map-append canon_event (events body) (End ∷ events rest) ∙ ap (λ w. w ++ 0x0B ∷ written (events rest)) (canon_events body) ∙ ap (λ w. canon_sequence body ++ 0x0B ∷ w) (canon_events rest))
+canon_events (Block k of body rest) = rw (flat_map-append canon_event (events body) (End ∷ events rest), canon_events body, canon_events rest) refl
 canon_events (If of then otherwise rest) =
-    let w = canon_sequence then in
-    ap (λ x. 0x04 ∷ block_type_byte of ∷ x)
-    (flat_map-append canon_event (events then) (Else (is_empty otherwise) ∷ events otherwise ++ (End ∷ events rest))
-    ∙ ap (λ x. x ++ written (Else (is_empty otherwise) ∷ events otherwise ++ (End ∷ events rest))) (canon_events then)
-    ∙ ap (λ x. w ++ x)
-    (flat_map-cons canon_event (Else (is_empty otherwise)) (events otherwise ++ (End ∷ events rest))
-    ∙ ap (λ x. canon_event (Else (is_empty otherwise)) ++ x) (flat_map-append canon_event (events otherwise) (End ∷ events rest))
-    ∙ arm_written otherwise (written (events otherwise)) (0x0B ∷ written (events rest)) (canon_events otherwise)
-    ∙ ap (λ x. canon_else otherwise (canon_sequence otherwise) ++ 0x0B ∷ x) (canon_events rest))
-    ∙ sym (append_assoc w (canon_else otherwise (canon_sequence otherwise)) (0x0B ∷ canon_sequence rest)))
+    let arm = arm_written otherwise (written (events otherwise)) (0x0B ∷ written (events rest)) (canon_events otherwise) in
+    rw (
+      flat_map-append canon_event (events then) (Else (is_empty otherwise) ∷ events otherwise ++ (End ∷ events rest)),
+      flat_map-cons canon_event (Else (is_empty otherwise)) (events otherwise ++ (End ∷ events rest)),
+      flat_map-append canon_event (events otherwise) (End ∷ events rest),
+      arm,
+      canon_events then,
+      canon_events rest,
+    ) (sym (ap (λ x. 0x04 ∷ block_type_byte of ∷ x) (append_assoc (canon_sequence then) (canon_else otherwise (canon_sequence otherwise)) (0x0B ∷ canon_sequence rest))))

@@ -1,9 +1,5 @@
 -- The items of a module are written so that they are spelled, in the fewest bytes.
-use Rattle.wasm_ast.specs.declared.module.Import.{Import}
-use Rattle.wasm_ast.specs.declared.module.GlobalVar.{GlobalVar}
-use Rattle.wasm_ast.specs.declared.module.Export.{Export}
-use Rattle.wasm_ast.specs.declared.module.Element.{Element}
-use Rattle.wasm_ast.specs.declared.module.Segment.{Segment}
+use Rattle.wasm_ast.specs.declared.module.{Import.Import, GlobalVar.GlobalVar, Export.Export, Element.Element, Segment.Segment}
 use Rattle.wasm_ast.specs.declared.module.ImportKind.TheVariants as imported
 use Rattle.wasm_ast.specs.declared.module.ExportKind.TheVariants as exported
 use Rattle.wasm_ast.specs.Shortest.{shortest_unsigned}

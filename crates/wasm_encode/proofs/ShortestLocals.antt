@@ -1,14 +1,12 @@
 -- The locals of a function are written so that they are spelled, in the fewest bytes.
-use Rattle.std.proofs.Common.{◌≡◌, ◌⊎◌, inl, inr, ℕ, ◌+◌, ◌<◌, ◌≤◌, ◌^◌, true, false, cond, List, [], ◌∷◌, ◌++◌, length, refl, sym, ◌∙◌, ap, subst, arith, length-append, append_assoc, eq-eqb, ne_eqb}
+use Rattle.std.proofs.Common.{◌≡◌, ◌⊎◌, inl, inr, ℕ, ◌+◌, ◌<◌, ◌≤◌, ◌^◌, false, cond, List, [], ◌∷◌, ◌++◌, length, refl, sym, ◌∙◌, ap, subst, arith, length-append, append_assoc, ne_eqb}
 use Rattle.std.specs.List.{flat_map}
-use Rattle.std.proofs.lemmas.Bool.{cases_lt}
 use Rattle.wasm_ast.specs.declared.locals.LocalGroup.{LocalGroup}
 use Rattle.wasm_ast.specs.declared.module.Code.{Code}
 use Rattle.wasm_ast.specs.Types.{same_type}
 use Rattle.wasm_ast.specs.Locals.{total, joined, added, AreMerged}
 use Rattle.wasm_ast.proofs.LocalsLemmas.{total-joined, merged-joined}
-use Rattle.wasm_ast.specs.Shortest.{shortest_unsigned}
-use Rattle.wasm_ast.specs.Shortest.{canon_vec}
+use Rattle.wasm_ast.specs.Shortest.{shortest_unsigned, canon_vec}
 use Rattle.wasm_ast.specs.Canon.{canon_group, canon_func, canon_code}
 use Rattle.wasm_ast.specs.SpelledTypes.{valtype_byte}
 use Rattle.wasm_ast.specs.Spelling.{SpellsEach, SpellsVec}
@@ -48,11 +46,7 @@ gathered_merged (g ∷ gs) m = ap (λ l. gathered l gs) (added_some [] g m.0) �
 -- ---- what one more group does
 
 empty_or : (g : LocalGroup) (gs : List LocalGroup) → ((g.count ≡ 0) × (added gs g ≡ gs)) ⊎ ((0 < g.count) × (added gs g ≡ joined gs g))
-empty_or g gs =
-    elim (cases_lt 0 g.count) [
-      | inl p ↦ inr (p, added_some gs g p)
-      | inr z ↦ let none : g.count ≡ 0 = omega arith in inl (none, ap (λ b. cond b gs (joined gs g)) (eq-eqb g.count 0 none))
-    ]
+empty_or g gs = grind arith
 
 merged_all : (more gs : List LocalGroup) → AreMerged gs → AreMerged (gathered gs more)
 merged_all [] gs m = m
@@ -67,7 +61,7 @@ total_all (g ∷ more) gs =
 
 length_joined : (gs : List LocalGroup) (g : LocalGroup) → length (joined gs g) ≤ length gs + 1
 length_joined [] g = omega arith
-length_joined (x ∷ []) g = elim (same_type x.of g.of) as (λ b. length (cond b ((record { count = x.count + g.count; of = x.of }) ∷ []) (x ∷ g ∷ [])) ≤ 2) [ true ↦ omega arith | false ↦ omega arith ]
+length_joined (x ∷ []) g = grind arith
 length_joined (x ∷ y ∷ gs) g = omega (arith, length_joined (y ∷ gs) g)
 
 length_all : (more gs : List LocalGroup) → length (gathered gs more) ≤ length gs + length more
@@ -85,10 +79,7 @@ written_joined : (gs : List LocalGroup) (g : LocalGroup) → length (written (jo
 written_joined [] g = omega (arith, length-append (canon_group g) [])
 written_joined (x ∷ []) g =
     let both : LocalGroup = record { count = x.count + g.count; of = x.of } in
-    elim (same_type x.of g.of) as (λ b. length (written (cond b (both ∷ []) (x ∷ g ∷ []))) ≤ length (canon_group x ++ []) + length (canon_group g)) [
-      | true ↦ omega (arith, group_sum x g, length-append (canon_group both) [], length-append (canon_group x) [])
-      | false ↦ omega (arith, length-append (canon_group x) (canon_group g ++ []), length-append (canon_group g) [], length-append (canon_group x) [])
-    ]
+    grind (arith, group_sum x g, length-append (canon_group both) [], length-append (canon_group x) [], length-append (canon_group x) (canon_group g ++ []), length-append (canon_group g) [])
 written_joined (x ∷ y ∷ gs) g =
     omega (arith, written_joined (y ∷ gs) g, length-append (canon_group x) (written (joined (y ∷ gs) g)), length-append (canon_group x) (written (y ∷ gs)))
 

@@ -4,8 +4,7 @@ use Rattle.std.proofs.lemmas.List.{append-nil}
 use Rattle.std.specs.List.{All}
 use Rattle.std.proofs.lemmas.List.Elements.{recursion_from_All}
 use Rattle.wasm_ast.specs.declared.module.Module.{Module}
-use Rattle.wasm_ast.specs.Shortest.{shortest_unsigned}
-use Rattle.wasm_ast.specs.Shortest.{canon_vec}
+use Rattle.wasm_ast.specs.Shortest.{shortest_unsigned, canon_vec}
 use Rattle.wasm_ast.specs.Canon.{canon_func_type, canon_import, canon_table, canon_memory, canon_global, canon_export, canon_element, canon_code, canon_segment, canon_list, canon_start, canon}
 use Rattle.wasm_ast.specs.Spelling.{SpellsU32, SpellsVec}
 use Rattle.wasm_ast.specs.SpelledTypes.{SpellsFuncType, SpellsTable, SpellsMemory}
@@ -51,20 +50,7 @@ behind_is [] front next = sym (append-nil front)
 behind_is (slot ∷ slots) front next = behind_is slots (front ++ written_slot next slot) (suc next) ∙ append_assoc front (written_slot next slot) (written_from (suc next) slots)
 
 slots_are : (m : Module) → behind preamble 1 (slots m) ≡ canon m
-slots_are m =
-    rw (
-      list_is canon_func_type 1 m.types,
-      list_is canon_import 2 m.imports,
-      list_is shortest_unsigned 3 m.functions,
-      list_is canon_table 4 m.tables,
-      list_is canon_memory 5 m.memories,
-      list_is canon_global 6 m.globals,
-      list_is canon_export 7 m.exports,
-      start_is m.start,
-      list_is canon_element 9 m.elements,
-      list_is canon_code 10 m.codes,
-      list_is canon_segment 11 m.segments,
-    ) refl
+slots_are m = simp (list_is, start_is)
 
 canon_is : (m : Module) → canon m ≡ preamble ++ written_from 1 (slots m)
 canon_is m = sym (slots_are m) ∙ behind_is (slots m) preamble 1

@@ -1,10 +1,9 @@
 -- The shortest numbers are spelled, and no spelling is shorter.
-use Rattle.std.proofs.Common.{◌≡◌, ◌⊎◌, inl, inr, ℕ, zero, suc, ℤ, pos, negsuc, ◌+◌, ◌-◌, ◌*◌, ◌/◌, ◌%◌, ◌^◌, ◌<◌, ◌≤◌, ◌+ℤ◌, ◌-ℤ◌, ◌*ℤ◌, nat_lt, nat_le, Bool, true, false, cond, ◌&&◌, List, [], ◌∷◌, ◌++◌, length, Option, Some, None, refl, sym, ◌∙◌, ap, subst, arith}
+use Rattle.std.proofs.Common.{◌≡◌, ◌⊎◌, inl, inr, ℕ, zero, suc, ℤ, pos, negsuc, ◌+◌, ◌-◌, ◌*◌, ◌/◌, ◌%◌, ◌^◌, ◌<◌, ◌≤◌, ◌+ℤ◌, ◌-ℤ◌, ◌*ℤ◌, nat_lt, Bool, true, false, ◌&&◌, List, [], ◌∷◌, ◌++◌, length, Option, Some, refl, sym, ◌∙◌, ap, subst, arith}
 use Rattle.std.specs.List.{AllByRecursion}
-use Rattle.std.proofs.lemmas.Bool.{lt-ltb, le-ltb, ltb-true, ltb-false, cases_lt, le-leb, lt-leb}
+use Rattle.std.proofs.lemmas.Bool.{lt-ltb, ltb-true, cases_lt, le-leb}
 use Rattle.byte_cursor.specs.Integers.{Spells, SpellsUnsigned, SpellsSigned, unsigned_last, unsigned_joined, signed_last, signed_joined}
 use Rattle.byte_cursor.proofs.Bounds.{seven_more, pow_le, unsigned_some, signed_low, signed_high}
-use Rattle.byte_cursor.proofs.Laws.{chosen}
 use Rattle.std.proofs.lemmas.Int.{ints}
 use Rattle.std.specs.Int.{int_div_euclid}
 use Rattle.wasm_ast.specs.Shortest.{bytes_within, unsigned_within, shortest_unsigned, signed_within, shortest_signed, is_small, low_bits}
@@ -68,11 +67,7 @@ module _ {N : Type 0} (small : N → Bool) (low : N → ℕ) (rest : N → N) (l
 -- ---- unsigned numbers
 
 last_unsigned : (bits b n : ℕ) → unsigned_last bits b ≡ Some n → (b < 2 ^ bits) × (b ≡ n)
-last_unsigned bits b n h =
-    elim (chosen (nat_lt b (2 ^ bits)) (Some b) None (Some n) h) [
-      | inl w ↦ (ltb-true b (2 ^ bits) w.0, some_is b n w.1)
-      | inr w ↦ let no : None ≡ Some n = w.1 in absurd cc
-    ]
+last_unsigned bits b n h = (grind arith, grind arith)
 
 -- a number that is spelled has so many bits
 unsigned_below : (bits : ℕ) (bytes : List ℕ) (n : ℕ) → AreBytes bytes → SpellsUnsigned bits bytes n → n < 2 ^ bits
@@ -177,12 +172,6 @@ small_pos n h = lt-ltb n 64 h
 small_neg : (n : ℕ) → n < 64 → is_small (negsuc n) ≡ true
 small_neg n h = ap (λ t. t && true) (le-leb n 63 (omega arith))
 
-large_pos : (n : ℕ) → 64 ≤ n → is_small (pos n) ≡ false
-large_pos n h = le-ltb n 64 h
-
-large_neg : (n : ℕ) → 64 ≤ n → is_small (negsuc n) ≡ false
-large_neg n h = ap (λ t. t && true) (lt-leb n 63 (omega arith))
-
 low_pos : (n : ℕ) → n < 64 → low_bits (pos n) ≡ n
 low_pos n h = omega arith
 
@@ -202,30 +191,21 @@ parts_again (negsuc k) d l = let e : (pos 128 *ℤ negsuc k) +ℤ pos d ≡ negs
 -- one byte spells a small number, where bits are enough
 small_spelled : (bits : ℕ) (z : ℤ) → 128 ≤ 2 ^ (bits - 1) → is_small z ≡ true → SpellsSigned bits (low_bits z ∷ []) z
 small_spelled bits (pos n) k h =
-    let l : n < 64 = elim (cases_lt n 64) [ inl w ↦ w | inr w ↦ let no : true ≡ false = sym h ∙ large_pos n w in absurd cc ] in
+    let l : n < 64 = ltb-true n 64 h in
     subst (λ b. SpellsSigned bits (b ∷ []) (pos n)) (sym (low_pos n l)) (omega arith, sym (signed_low bits n (pos n) refl l (omega arith)))
 small_spelled bits (negsuc n) k h =
-    let l : n < 64 = elim (cases_lt n 64) [ inl w ↦ w | inr w ↦ let no : true ≡ false = sym h ∙ large_neg n w in absurd cc ] in
+    let l : n < 64 = grind arith in
     subst (λ b. SpellsSigned bits (b ∷ []) (negsuc n)) (sym (low_neg n l)) (omega arith, sym (signed_high bits (127 - n) (negsuc n) (below_zero n (omega arith)) (omega arith) (omega arith)))
 
 -- what a last byte spells
 last_signed : (bits b : ℕ) (z : ℤ) → b < 128 → signed_last bits b ≡ Some z → (is_small z ≡ true) × (low_bits z ≡ b)
 last_signed bits b z l h =
-    elim (chosen (nat_lt b 64) (cond (nat_lt b (2 ^ (bits - 1))) (Some (pos b)) None) (cond (nat_le 128 (b + 2 ^ (bits - 1))) (Some (pos b -ℤ pos 128)) None) (Some z) h) [
-      | inl w ↦
-          let low : b < 64 = ltb-true b 64 w.0 in
-          elim (chosen (nat_lt b (2 ^ (bits - 1))) (Some (pos b)) None (Some z) w.1) [
-            | inl v ↦ let e : pos b ≡ z = some_is _ _ v.1 in (ap is_small (sym e) ∙ small_pos b low, ap low_bits (sym e) ∙ low_pos b low)
-            | inr v ↦ let no : None ≡ Some z = v.1 in absurd cc
-          ]
-      | inr w ↦
-          let high : 64 ≤ b = ltb-false b 64 w.0 in
-          elim (chosen (nat_le 128 (b + 2 ^ (bits - 1))) (Some (pos b -ℤ pos 128)) None (Some z) w.1) [
-            | inl v ↦
-                let e : negsuc (127 - b) ≡ z = below_zero (127 - b) (omega arith) ∙ ap (λ i. pos i -ℤ pos 128) (omega arith) ∙ some_is _ _ v.1 in
-                (ap is_small (sym e) ∙ small_neg (127 - b) (omega arith), ap low_bits (sym e) ∙ low_neg (127 - b) (omega arith) ∙ omega arith)
-            | inr v ↦ let no : None ≡ Some z = v.1 in absurd cc
-          ]
+    elim (cases_lt b 64) [
+      | inl low ↦ let e : pos b ≡ z = grind arith in (ap is_small (sym e) ∙ small_pos b low, ap low_bits (sym e) ∙ low_pos b low)
+      | inr high ↦
+          let found : pos b -ℤ pos 128 ≡ z = grind arith in
+          let e : negsuc (127 - b) ≡ z = below_zero (127 - b) (omega arith) ∙ ap (λ i. pos i -ℤ pos 128) (omega arith) ∙ found in
+          (ap is_small (sym e) ∙ small_neg (127 - b) (omega arith), ap low_bits (sym e) ∙ low_neg (127 - b) (omega arith) ∙ omega arith)
     ]
 
 signed_shortest : (more bits : ℕ) (bytes : List ℕ) (z : ℤ) → bits ≤ 7 * more + 7 → AreBytes bytes → SpellsSigned bits bytes z → NoLonger (λ a. SpellsSigned bits a z) bytes (signed_within more z)

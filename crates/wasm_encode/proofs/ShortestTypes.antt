@@ -1,11 +1,9 @@
 -- Types are written so that they are spelled, in the fewest bytes.
 use Rattle.std.proofs.Common.{ℕ, Bool, true, false, List, [], ◌∷◌, ◌++◌, Option, Some, None, sym, subst}
-use Rattle.wasm_ast.specs.declared.types.ValType.{ValType}
-use Rattle.wasm_ast.specs.declared.types.FuncType.{FuncType}
+use Rattle.wasm_ast.specs.declared.types.{ValType.ValType, FuncType.FuncType}
 use Rattle.wasm_ast.specs.Spelling.{Joined, SpellsU32}
-use Rattle.wasm_ast.specs.Shortest.{shortest_unsigned}
+use Rattle.wasm_ast.specs.Shortest.{shortest_unsigned, canon_vec}
 use Rattle.wasm_ast.specs.CanonInstr.{block_type_byte}
-use Rattle.wasm_ast.specs.Shortest.{canon_vec}
 use Rattle.wasm_ast.specs.Canon.{canon_val_type, canon_func_type, canon_limits_of, canon_memory, canon_table, canon_global_type}
 use Rattle.wasm_ast.specs.SpelledTypes.{valtype_byte, SpellsValType, SpellsBlockType, SpellsFuncType, LimitsForm, SpellsMemory, SpellsTable, SpellsGlobalType}
 use Rattle.wasm_encode.proofs.ShortestNumbers.{AreBytes, NoLonger}

@@ -1,8 +1,7 @@
 -- What is written of parts is spelled and no longer, where that of each part is.
 use Rattle.std.proofs.Common.{◌≡◌, ℕ, ◌≤◌, List, [], ◌∷◌, ◌++◌, length, refl, sym, ap, subst, arith, length-append, append_assoc}
 use Rattle.std.specs.List.{flat_map}
-use Rattle.wasm_ast.specs.Shortest.{shortest_unsigned}
-use Rattle.wasm_ast.specs.Shortest.{canon_vec}
+use Rattle.wasm_ast.specs.Shortest.{shortest_unsigned, canon_vec}
 use Rattle.wasm_ast.specs.Canon.{canon_bytes}
 use Rattle.wasm_ast.specs.Spelling.{Joined, Behind, SpellsU32, SpellsEach, SpellsVec, SpellsBytes, SpellsName, Sized}
 use Rattle.wasm_encode.proofs.ShortestNumbers.{AreBytes, bytes_split, NoLonger, u32_shortest}

@@ -1,7 +1,6 @@
 // Vectors and byte sequences: WebAssembly Core 1.0, section 5.1.3.
 ghost use Rattle.std.specs.Prelude.{◌≡◌, ◌++◌, ◌∷◌, [], List, ℕ, OnOk};
-ghost use Rattle.wasm_ast.specs.Shortest.{shortest_unsigned};
-ghost use Rattle.wasm_ast.specs.Shortest.{canon_vec};
+ghost use Rattle.wasm_ast.specs.Shortest.{shortest_unsigned, canon_vec};
 ghost use Rattle.wasm_ast.specs.Canon.{canon_bytes};
 
 use crate::numbers::write_unsigned;

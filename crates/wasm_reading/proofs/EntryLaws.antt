@@ -2,9 +2,8 @@
 use Rattle.std.proofs.Common.{◌≡◌, ℕ, zero, suc, ◌+◌, ◌<◌, ◌^◌, nat_lt, true, cond, List, [], ◌∷◌, ◌++◌, length, Some, None, refl, sym, ◌∙◌, ap, subst, arith, ltb-true, lt-ltb}
 use Rattle.byte_cursor.specs.Integers.{BeginsWith}
 use Rattle.wasm_ast.specs.declared.locals.LocalGroup.{LocalGroup}
-use Rattle.wasm_ast.specs.declared.module.ImportKind.{ImportKind}
+use Rattle.wasm_ast.specs.declared.module.{ImportKind.ImportKind, ExportKind.ExportKind}
 use Rattle.wasm_ast.specs.declared.module.ImportKind.TheVariants as imported
-use Rattle.wasm_ast.specs.declared.module.ExportKind.{ExportKind}
 use Rattle.wasm_ast.specs.declared.module.ExportKind.TheVariants as exported
 use Rattle.wasm_ast.specs.Locals.{added, total}
 use Rattle.wasm_ast.specs.Spelling.{Joined, SpellsU32, SpellsEach}

@@ -1,8 +1,7 @@
 -- What is spelled as an expression is read so.
-use Rattle.std.proofs.Common.{◌≡◌, ◌⊎◌, inl, inr, ℕ, List, [], ◌∷◌, ◌++◌, Option, Some, refl, sym, ◌∙◌, ap, subst, append_assoc, cond}
+use Rattle.std.proofs.Common.{◌≡◌, ◌⊎◌, inl, inr, ℕ, List, [], ◌∷◌, ◌++◌, Option, Some, refl, sym, ◌∙◌, ap, append_assoc}
 use Rattle.wasm_ast.specs.declared.types.ValType.{ValType}
-use Rattle.wasm_ast.specs.declared.instr.Instr.{Instr}
-use Rattle.wasm_ast.specs.declared.instr.Construct.{Construct}
+use Rattle.wasm_ast.specs.declared.instr.{Instr.Instr, Construct.Construct}
 use Rattle.wasm_ast.specs.declared.instr.Construct.TheVariants as construct
 use Rattle.wasm_ast.specs.declared.opcode.Opcode.{Opcode}
 use Rattle.wasm_ast.specs.declared.opcode.Opcode.TheVariants as op
@@ -14,10 +13,9 @@ use Rattle.wasm_ast.specs.Opcodes.{block_byte, construct_byte}
 use Rattle.wasm_ast.specs.SpelledInstr.{SpellsPlain, SpellsSequence, SpellsExpr}
 use Rattle.wasm_ast.specs.OpcodeTables.{opcode_at, SpellsBehind}
 use Rattle.wasm_ast.proofs.OpcodeLaws.{spelled_is_behind, plain_begins}
-use Rattle.wasm_reading.specs.declared.exprs.Shape.TheVariants as shape
-use Rattle.wasm_reading.specs.declared.exprs.Step.TheVariants.{Going, Complete}
+use Rattle.wasm_reading.specs.declared.exprs.Step.TheVariants.{Continue, Complete}
 use Rattle.wasm_reading.specs.ReadValues.{and_then, IsExact}
-use Rattle.wasm_reading.specs.ReadExpr.{shape_of, behind_shape, step_at, goes_on, rest_at, expr_at}
+use Rattle.wasm_reading.specs.ReadExpr.{shape_of, behind_shape, rest_at, expr_at}
 use Rattle.wasm_reading.proofs.TypeLaws.{blocktype_exact}
 use Rattle.wasm_reading.proofs.InstrLaws.{immediates_exact}
 use Rattle.wasm_reading.proofs.Sequences.{append-empty, append-append}
@@ -28,34 +26,34 @@ use Rattle.wasm_reading.proofs.ExprTakes.{expr_takes}
 -- an opening byte and a block type
 begin_read : (c : Construct) (v : Built) (b : ℕ) (q more : List ℕ) (of : Option ValType) → b ≡ construct_byte c → SpellsBlockType q of → rest_at v (b ∷ (q ++ more)) ≡ rest_at (with_open c of v) more
 begin_read c v b q more of o s =
-    step_to v (b ∷ (q ++ more)) (Going (with_open c of v)) more
-    (ap (λ x. behind_shape x (opcode_at b) v (q ++ more)) (shape_begin b c o) ∙ ap (λ x. and_then x (λ of rest. Some (Going (with_open c of v), rest))) (blocktype_exact.again q more of s))
+    step_to v (b ∷ (q ++ more)) (Continue (with_open c of v)) more
+    (ap (λ x. behind_shape x (opcode_at b) v (q ++ more)) (shape_begin b c o) ∙ ap (λ x. and_then x (λ of rest. Some (Continue (with_open c of v), rest))) (blocktype_exact.again q more of s))
 
 -- the end of a construct
 end_read : (o : Open) (os : List Open) (s : Sequence) (e : ℕ) (more : List ℕ) → e ≡ 0x0B → rest_at (record { opens = o ∷ os; before = s }) (e ∷ more) ≡ rest_at (record { opens = os; before = closed o s }) more
 end_read o os s e more h =
     let v : Built = record { opens = o ∷ os; before = s } in
-    step_to v (e ∷ more) (Going (record { opens = os; before = closed o s })) more (ap (λ x. behind_shape x (opcode_at e) v more) (shape_end e h))
+    step_to v (e ∷ more) (Continue (record { opens = os; before = closed o s })) more (ap (λ x. behind_shape x (opcode_at e) v more) (shape_end e h))
 
 -- the end of the first arm of an if
 else_read : (of : Option ValType) (under : Sequence) (os : List Open) (s : Sequence) (e : ℕ) (more : List ℕ) → e ≡ 0x05 →
     rest_at (record { opens = Inside construct.If of under ∷ os; before = s }) (e ∷ more) ≡ rest_at (record { opens = Else of s under ∷ os; before = Empty }) more
 else_read of under os s e more h =
     let v : Built = record { opens = Inside construct.If of under ∷ os; before = s } in
-    step_to v (e ∷ more) (Going (record { opens = Else of s under ∷ os; before = Empty })) more (ap (λ x. behind_shape x (opcode_at e) v more) (shape_else e h))
+    step_to v (e ∷ more) (Continue (record { opens = Else of s under ∷ os; before = Empty })) more (ap (λ x. behind_shape x (opcode_at e) v more) (shape_else e h))
 
 -- an instruction without inner instructions
-behind_plain : (o : Opcode) (v : Built) (imm more : List ℕ) (i : Instr) → SpellsBehind o imm i → behind_shape (shape_of o) o v (imm ++ more) ≡ Some (Going (with_plain i v), more)
+behind_plain : (o : Opcode) (v : Built) (imm more : List ℕ) (i : Instr) → SpellsBehind o imm i → behind_shape (shape_of o) o v (imm ++ more) ≡ Some (Continue (with_plain i v), more)
 behind_plain op.End v imm more i h = absurd h.1
 behind_plain op.Else v imm more i h = absurd h.1
 behind_plain op.Block v imm more i h = absurd h.1
 behind_plain op.Loop v imm more i h = absurd h.1
 behind_plain op.If v imm more i h = absurd h.1
-behind_plain o v imm more i h = ap (λ x. and_then x (λ i rest. Some (Going (with_plain i v), rest))) ((immediates_exact o).again imm more i h)
+behind_plain o v imm more i h = ap (λ x. and_then x (λ i rest. Some (Continue (with_plain i v), rest))) ((immediates_exact o).again imm more i h)
 
 plain_read : (i : Instr) (p more : List ℕ) (v : Built) → SpellsPlain p i → rest_at v (p ++ more) ≡ rest_at (with_plain i v) more
 plain_read i [] more v s = absurd (plain_begins i s)
-plain_read i (b ∷ imm) more v s = step_to v (b ∷ (imm ++ more)) (Going (with_plain i v)) more (behind_plain (opcode_at b) v imm more i (spelled_is_behind b imm i s))
+plain_read i (b ∷ imm) more v s = step_to v (b ∷ (imm ++ more)) (Continue (with_plain i v)) more (behind_plain (opcode_at b) v imm more i (spelled_is_behind b imm i s))
 
 -- a sequence behind what was read
 abbrev behind : Built → Sequence → Built

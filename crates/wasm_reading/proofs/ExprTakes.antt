@@ -1,26 +1,21 @@
 -- What is read as an expression is spelled so.
-use Rattle.std.proofs.Common.{◌≡◌, ◌⊎◌, inl, inr, ℕ, zero, suc, List, [], ◌∷◌, ◌++◌, length, Option, Some, None, refl, sym, ◌∙◌, ap, subst, append_assoc, true}
+use Rattle.std.proofs.Common.{◌≡◌, ◌⊎◌, inl, inr, ℕ, zero, suc, List, [], ◌∷◌, ◌++◌, length, Option, Some, refl, sym, ◌∙◌, ap, subst, append_assoc, true}
 use Rattle.std.proofs.lemmas.Bool.{false≢true}
 use Rattle.byte_cursor.specs.Integers.{BeginsWith}
 use Rattle.wasm_ast.specs.declared.types.ValType.{ValType}
-use Rattle.wasm_ast.specs.declared.instr.Instr.{Instr}
-use Rattle.wasm_ast.specs.declared.instr.BlockKind.{BlockKind}
-use Rattle.wasm_ast.specs.declared.instr.Construct.{Construct}
+use Rattle.wasm_ast.specs.declared.instr.{BlockKind.BlockKind, Construct.Construct}
 use Rattle.wasm_ast.specs.declared.instr.Construct.TheVariants as construct
-use Rattle.wasm_ast.specs.declared.opcode.Opcode.{Opcode}
 use Rattle.wasm_ast.specs.Sequence.{Sequence, Empty, Plain, Block, If}
-use Rattle.wasm_ast.specs.Built.{Open, Inside, Else, Built, append, nothing_built, with_plain, with_open, with_else, with_end, whole, closed, takes_else}
+use Rattle.wasm_ast.specs.Built.{Open, Inside, Else, Built, append, nothing_built, with_plain, with_open, with_else, takes_else}
 use Rattle.wasm_ast.specs.Spelling.{Joined, Behind}
 use Rattle.wasm_ast.specs.SpelledTypes.{SpellsBlockType}
 use Rattle.wasm_ast.specs.Opcodes.{block_byte, construct_byte}
-use Rattle.wasm_ast.specs.SpelledInstr.{SpellsPlain, SpellsSequence, SpellsExpr}
-use Rattle.wasm_ast.specs.OpcodeTables.{opcode_at, SpellsBehind}
+use Rattle.wasm_ast.specs.SpelledInstr.{SpellsSequence, SpellsExpr}
+use Rattle.wasm_ast.specs.OpcodeTables.{opcode_at}
 use Rattle.wasm_ast.proofs.OpcodeLaws.{behind_is_spelled}
-use Rattle.wasm_reading.specs.declared.exprs.Shape.{Shape}
+use Rattle.wasm_reading.specs.declared.exprs.{Shape.Shape, Step.Step}
 use Rattle.wasm_reading.specs.declared.exprs.Shape.TheVariants as shape
-use Rattle.wasm_reading.specs.declared.exprs.Step.{Step}
-use Rattle.wasm_reading.specs.declared.exprs.Step.TheVariants.{Going, Complete}
-use Rattle.wasm_reading.specs.ReadValues.{and_then, mapped}
+use Rattle.wasm_reading.specs.declared.exprs.Step.TheVariants.{Continue}
 use Rattle.wasm_reading.specs.ReadTypes.{blocktype_at}
 use Rattle.wasm_reading.specs.ReadInstr.{immediates_at}
 use Rattle.wasm_reading.specs.ReadExpr.{shape_of, end_step, behind_shape, step_at, goes_on, steps_at, expr_at}
@@ -134,7 +129,7 @@ module _ (go : Built → List ℕ → Option (Sequence × List ℕ)) (sound : Is
       let g = sound (record { opens = opens; before = append under (If of one before Empty) }) bytes s rest h in
       (b ∷ g.0, rest_now (After (Else of one under ∷ opens) s) before (b ∷ g.0) (e, g.1), ap (λ m. b ∷ m) g.2)
 
-  else_took : b ≡ 0x05 → (opens : List Open) (before : Sequence) → takes_else opens ≡ true → goes_on go (Going (with_else (record { opens = opens; before = before }))) bytes ≡ Some (s, rest) →
+  else_took : b ≡ 0x05 → (opens : List Open) (before : Sequence) → takes_else opens ≡ true → goes_on go (Continue (with_else (record { opens = opens; before = before }))) bytes ≡ Some (s, rest) →
       Took (record { opens = opens; before = before }) (b ∷ bytes) s rest
   else_took e [] before t h = absurd (false≢true t)
   else_took e (Inside (construct.Block k) of under ∷ opens) before t h = absurd (false≢true t)
@@ -160,14 +155,14 @@ module _ (go : Built → List ℕ → Option (Sequence × List ℕ)) (sound : Is
       let same = some_is _ _ h in
       end_took (end_byte b e) v.opens v.before (ap (λ z. goes_on go z.0 z.1) same ∙ g)
   step_took shape.Else e v p mid h g =
-      let chosen = chose_some (takes_else v.opens) (Some (Going (with_else v), bytes)) (p, mid) h in
+      let chosen = chose_some (takes_else v.opens) (Some (Continue (with_else v), bytes)) (p, mid) h in
       else_took (else_byte b e) v.opens v.before chosen.0 (ap (λ z. goes_on go z.0 z.1) (some_is _ _ chosen.1) ∙ g)
   step_took (shape.Begin c) e v p mid h g =
-      let u = read_first (blocktype_at bytes) (λ of more. Some (Going (with_open c of v), more)) (p, mid) h in
+      let u = read_first (blocktype_at bytes) (λ of more. Some (Continue (with_open c of v), more)) (p, mid) h in
       let t = blocktype_exact.takes bytes u.0 u.1 u.2 in
       begin_took c (begin_byte b c e) v u.0 u.1 t.0 t.1 t.2 (ap (λ z. goes_on go z.0 z.1) (some_is _ _ u.3) ∙ g)
   step_took shape.Plain e v p mid h g =
-      let u = read_first (immediates_at (opcode_at b) bytes) (λ i more. Some (Going (with_plain i v), more)) (p, mid) h in
+      let u = read_first (immediates_at (opcode_at b) bytes) (λ i more. Some (Continue (with_plain i v), more)) (p, mid) h in
       let t = (immediates_exact (opcode_at b)).takes bytes u.0 u.1 u.2 in
       let w = sound (with_plain u.0 v) u.1 s rest (ap (λ z. goes_on go z.0 z.1) (some_is _ _ u.3) ∙ g) in (
         b ∷ t.0 ++ w.0,

@@ -1,12 +1,14 @@
 -- Reading a module takes just what is spelled so.
-use Rattle.std.proofs.Common.{◌≡◌, inl, inr, ℕ, zero, suc, ◌+◌, ◌<◌, ◌≤◌, ◌==◌, nat_lt, true, false, cond, List, [], ◌∷◌, ◌++◌, length, Option, Some, None, MatchOption, is_some, refl, sym, ◌∙◌, ap, subst, arith, eqb-true, eq-eqb, ne_eqb, ltb-false, le-ltb, length-append}
+use Rattle.std.proofs.Common.{◌≡◌, ◌⊎◌, inl, inr, ℕ, zero, suc, ◌+◌, ◌<◌, ◌≤◌, ◌==◌, true, cond, List, [], ◌∷◌, ◌++◌, length, Option, Some, None, MatchOption, is_some, refl, sym, ◌∙◌, ap, subst, arith, eqb-true, eq-eqb, ne_eqb, le-ltb, length-append}
 use Rattle.std.specs.Option.{option_map, option_and_then}
+use Rattle.byte_cursor.specs.Integers.{BeginsWith}
 use Rattle.wasm_ast.specs.declared.module.Module.{Module}
 use Rattle.wasm_ast.specs.Spelling.{SpellsU32, SpellsEach, SpellsVec}
-use Rattle.wasm_ast.specs.SpelledModule.{Section, SpellsSection, IsCustom, InOrder, content_of, Holds, HoldsStart, preamble, SpellsModule}
-use Rattle.wasm_reading.specs.ReadValues.{and_then, u32_at, bytes_at, name_at, all_of, IsExact}
-use Rattle.wasm_reading.specs.ReadModule.{with_section, placed, sections_at, all_held, held_at, start_held, both, fields_of, module_with, counted, module_of, preamble_at, body_at, module_at}
-use Rattle.wasm_reading.proofs.ValueLaws.{chosen, chose_some, some_is, read_first, u32_exact, vec_exact, bytes_exact, name_exact, all_spelled, all_again}
+use Rattle.wasm_ast.specs.SpelledTypes.{SpellsFuncType, SpellsTable, SpellsMemory}
+use Rattle.wasm_ast.specs.SpelledModule.{SpellsImport, SpellsGlobal, SpellsExport, SpellsElement, SpellsCode, SpellsSegment, Section, SpellsSection, IsCustom, InOrder, content_of, Holds, HoldsStart, preamble, SpellsModule}
+use Rattle.wasm_reading.specs.ReadValues.{and_then, u32_at, bytes_at, name_at, all_of, with_rest, IsExact}
+use Rattle.wasm_reading.specs.ReadModule.{next_from, section_at, sections_at, all_held, held_at, start_held, both, Fields, fields_of, module_with, counted, module_of, preamble_at, body_at, module_at}
+use Rattle.wasm_reading.proofs.ValueLaws.{chose_some, some_is, read_first, with_takes, u32_exact, vec_exact, bytes_exact, name_exact, all_spelled, all_again}
 use Rattle.wasm_reading.proofs.TypeLaws.{functype_exact, memory_exact, table_exact}
 use Rattle.wasm_reading.proofs.EntryLaws.{import_exact, global_exact, export_exact, element_exact, code_exact, segment_exact}
 
@@ -17,16 +19,6 @@ map_some f (Some x) y h = (x, refl, some_is _ _ h)
 so_some : {X Y : Type 0} (f : X → Option Y) (o : Option X) (y : Y) → option_and_then f o ≡ Some y → (x : X) × (o ≡ Some x) × (f x ≡ Some y)
 so_some f None y h = cc
 so_some f (Some x) y h = (x, refl, h)
-
-both_some : {X Y : Type 0} (o : Option X) (p : Option Y) (z : X × Y) → both o p ≡ Some z → (o ≡ Some z.0) × (p ≡ Some z.1)
-unfolding both
-both_some None p z h = cc
-both_some (Some x) None z h = cc
-both_some (Some x) (Some y) z h = (ap (λ w. Some w.0) (some_is _ _ h), ap (λ w. Some w.1) (some_is _ _ h))
-
-both_again : {X Y : Type 0} (o : Option X) (p : Option Y) (x : X) (y : Y) → o ≡ Some x → p ≡ Some y → both o p ≡ Some (x, y)
-unfolding both
-both_again o p x y e f = ap (λ q. both q p) e ∙ ap (λ q. both (Some x) q) f
 
 -- a name in front
 custom_of : (content : List ℕ) (o : Option (List ℕ × List ℕ)) → name_at content ≡ o → is_some o ≡ true → IsCustom content
@@ -39,111 +31,135 @@ custom_named : (content : List ℕ) → IsCustom content → is_some (name_at co
 custom_named content c =
     ap (λ b. is_some (name_at b)) c.1.parts ∙ ap is_some (name_exact.again c.1.front c.1.back c.0 c.1.first)
 
-positive : (b : ℕ) → (b == 0) ≡ false → 0 < b
-positive zero h = cc
-positive (suc b) h = omega arith
+-- what the number of a section, from one on, says of the next
+abbrev pub IsPlaced : ℕ → Section → ℕ → Type 0
+IsPlaced next s n =
+    ((s.id ≡ 0) × IsCustom s.content × (n ≡ next))
+    ⊎ ((0 < s.id) × (next ≤ s.id) × (s.id ≤ 11) × (n ≡ s.id + 1))
 
-nonzero : (b : ℕ) → 0 < b → (b == 0) ≡ false
-nonzero b h = ne_eqb b 0 (λ e. omega arith)
+next_takes : (next b : ℕ) (content : List ℕ) (n : ℕ) → next_from next b content ≡ Some n → IsPlaced next (record { id = b; content = content }) n
+next_takes next zero content n h =
+    let c = chose_some (is_some (name_at content)) (Some next) n h in inl (refl, custom_of content (name_at content) refl c.0, sym (some_is _ _ c.1))
+next_takes next (suc b) content n h = inr (omega arith, grind arith, grind arith, grind arith)
+
+next_again : (next : ℕ) (s : Section) (n : ℕ) → IsPlaced next s n → next_from next s.id s.content ≡ Some n
+next_again next s n (inl w) = let named = custom_named s.content w.1 in rw (eq-eqb s.id 0 w.0, named) (ap (λ k. Some k) (sym w.2))
+next_again next s n (inr w) = rw (ne_eqb s.id 0 (λ e. omega (arith, e, w.0)), le-ltb s.id next w.1, le-ltb 11 s.id w.2) (ap (λ k. Some k) (sym w.3))
+
+-- a section that is spelled, and the number from which on the next may be
+abbrev pub SpellsNext : ℕ → List ℕ → Section × ℕ → Type 0
+SpellsNext next bytes p = SpellsSection bytes p.0 × IsPlaced next p.0 p.1
+
+module _ (next : ℕ) where
+  abbrev behind : ℕ → List ℕ → List ℕ → Option ((Section × ℕ) × List ℕ)
+  behind b content rest = with_rest rest (option_map (λ n. (record { id = b; content = content }, n)) (next_from next b content))
+
+  pub section_exact : IsExact (SpellsNext next) (section_at next)
+  section_exact = record { takes = takes; again = again } where
+    takes : (bytes : List ℕ) (p : Section × ℕ) (rest : List ℕ) → section_at next bytes ≡ Some (p, rest) → BeginsWith (SpellsNext next) bytes p rest
+    takes [] p rest h = cc
+    takes (b ∷ bytes) p rest h =
+        let u = read_first (bytes_at bytes) (behind b) (p, rest) h in
+        let w = with_takes u.1 _ p rest u.3 in
+        let m = map_some (λ n. (record { id = b; content = u.0 }, n)) (next_from next b u.0) p w.0 in
+        let t = bytes_exact.takes bytes u.0 u.1 u.2 in
+        (b ∷ t.0, subst (λ z. SpellsNext next (b ∷ t.0) z) m.2 ((refl, t.1), next_takes next b u.0 m.0 m.1), ap (λ z. b ∷ z) (t.2 ∙ ap (λ z. t.0 ++ z) w.1))
+
+    again : (front rest : List ℕ) (p : Section × ℕ) → SpellsNext next front p → section_at next (front ++ rest) ≡ Some (p, rest)
+    again [] rest p h = absurd h.0
+    again (b ∷ front) rest p h =
+        ap (λ o. and_then o (behind b)) (bytes_exact.again front rest p.0.content h.0.1)
+        ∙ ap (λ i. behind i p.0.content rest) h.0.0
+        ∙ ap (λ o. with_rest rest (option_map (λ n. (p.0, n)) o)) (next_again next p.0 p.1 h.1)
+
+order_more : (next n : ℕ) (s : Section) (ss : List Section) → IsPlaced next s n → InOrder n ss → InOrder next (s ∷ ss)
+order_more next n s ss (inl w) o = inl (w.0, w.1, subst (λ k. InOrder k ss) w.2 o)
+order_more next n s ss (inr w) o = inr (w.0, w.1, w.2, subst (λ k. InOrder k ss) w.3 o)
+
+order_first : (next : ℕ) (s : Section) (ss : List Section) → InOrder next (s ∷ ss) → (n : ℕ) × IsPlaced next s n × InOrder n ss
+order_first next s ss (inl w) = (next, inl (w.0, w.1, refl), w.2)
+order_first next s ss (inr w) = (s.id + 1, inr (w.0, w.1, w.2, refl), w.3)
 
 sections_take : (n next : ℕ) (bytes : List ℕ) (ss : List Section) → sections_at n next bytes ≡ Some ss → SpellsEach SpellsSection bytes ss × InOrder next ss
-sections_take zero next [] ss h = subst (λ z. SpellsEach SpellsSection [] z × InOrder next z) (some_is _ _ h) (refl, tt)
+sections_take n next [] ss h = subst (λ z. SpellsEach SpellsSection [] z × InOrder next z) (some_is _ _ h) (refl, tt)
 sections_take zero next (b ∷ bytes) ss h = cc
-sections_take (suc n) next [] ss h = subst (λ z. SpellsEach SpellsSection [] z × InOrder next z) (some_is _ _ h) (refl, tt)
 sections_take (suc n) next (b ∷ bytes) ss h =
-    let u = read_first (bytes_at bytes) (λ content rest. placed next b content (sections_at n next rest) (sections_at n (b + 1) rest)) ss h in
-    let t = bytes_exact.takes bytes u.0 u.1 u.2 in
-    let s : Section = record { id = b; content = u.0 } in
-    elim (chosen (b == 0) _ _ (Some ss) u.3) [
-      | inl w ↦
-          let c = chose_some (is_some (name_at u.0)) (with_section b u.0 (sections_at n next u.1)) ss w.1 in
-          let m = map_some (λ ss. s ∷ ss) (sections_at n next u.1) ss c.1 in
-          let r = sections_take n next u.1 m.0 m.1 in
-          subst (λ z. SpellsEach SpellsSection (b ∷ bytes) z × InOrder next z) m.2 (
-            record { front = b ∷ t.0; back = u.1; parts = ap (λ a. b ∷ a) t.2; first = (refl, t.1); second = r.0 },
-            inl (eqb-true b 0 w.0, custom_of u.0 (name_at u.0) refl c.0, r.1),
-          )
-      | inr w ↦ elim (chosen (nat_lt b next) None _ (Some ss) w.1) [
-        | inl v ↦ let no : None ≡ Some ss = v.1 in cc
-        | inr v ↦ elim (chosen (nat_lt 11 b) None (with_section b u.0 (sections_at n (b + 1) u.1)) (Some ss) v.1) [
-          | inl x ↦ let no : None ≡ Some ss = x.1 in cc
-          | inr x ↦
-              let m = map_some (λ ss. s ∷ ss) (sections_at n (b + 1) u.1) ss x.1 in
-              let r = sections_take n (b + 1) u.1 m.0 m.1 in
-              subst (λ z. SpellsEach SpellsSection (b ∷ bytes) z × InOrder next z) m.2 (
-                record { front = b ∷ t.0; back = u.1; parts = ap (λ a. b ∷ a) t.2; first = (refl, t.1); second = r.0 },
-                inr (positive b w.0, ltb-false b next v.0, ltb-false 11 b x.0, r.1),
-              )
-        ]
-      ]
-    ]
-
-none_left : (n next : ℕ) → sections_at n next [] ≡ Some []
-none_left zero next = refl
-none_left (suc n) next = refl
-
-placed_custom : (next b : ℕ) (content : List ℕ) (same later : Option (List Section)) → b ≡ 0 → IsCustom content → placed next b content same later ≡ with_section b content same
-placed_custom next b content same later e c =
-    ap (λ t. cond t (cond (is_some (name_at content)) (with_section b content same) None) (cond (nat_lt b next) None (cond (nat_lt 11 b) None (with_section b content later)))) (eq-eqb b 0 e)
-    ∙ ap (λ t. cond t (with_section b content same) None) (custom_named content c)
-
-placed_known : (next b : ℕ) (content : List ℕ) (same later : Option (List Section)) → 0 < b → next ≤ b → b ≤ 11 → placed next b content same later ≡ with_section b content later
-placed_known next b content same later p l k =
-    ap (λ t. cond t (cond (is_some (name_at content)) (with_section b content same) None) (cond (nat_lt b next) None (cond (nat_lt 11 b) None (with_section b content later)))) (nonzero b p)
-    ∙ ap (λ t. cond t None (cond (nat_lt 11 b) None (with_section b content later))) (le-ltb b next l)
-    ∙ ap (λ t. cond t None (with_section b content later)) (le-ltb 11 b k)
-
--- the section of a byte that is its number
-section_is : (b : ℕ) (s : Section) (ss : List Section) (o : Option (List Section)) → b ≡ s.id → o ≡ Some ss → with_section b s.content o ≡ Some (s ∷ ss)
-section_is b s ss o e f = ap (λ q. with_section b s.content q) f ∙ ap (λ i. Some (record { id = i; content = s.content } ∷ ss)) e
+    let u = read_first (section_at next (b ∷ bytes)) (λ s rest. option_map (λ ss. s.0 ∷ ss) (sections_at n s.1 rest)) ss h in
+    let t = (section_exact next).takes (b ∷ bytes) u.0 u.1 u.2 in
+    let m = map_some (λ ss. u.0.0 ∷ ss) (sections_at n u.0.1 u.1) ss u.3 in
+    let r = sections_take n u.0.1 u.1 m.0 m.1 in
+    subst (λ z. SpellsEach SpellsSection (b ∷ bytes) z × InOrder next z) m.2
+    (record { front = t.0; back = u.1; parts = t.2; first = t.1.0; second = r.0 }, order_more next u.0.1 u.0.0 m.0 t.1.1 r.1)
 
 section_again : (s : Section) (ss : List Section) (n next : ℕ) (front back : List ℕ) → SpellsSection front s → length (front ++ back) ≤ n →
     ((m later : ℕ) → length back ≤ m → InOrder later ss → sections_at m later back ≡ Some ss) → InOrder next (s ∷ ss) → sections_at n next (front ++ back) ≡ Some (s ∷ ss)
 section_again s ss n next [] back h l k o = absurd h
 section_again s ss zero next (b ∷ front) back h l k o = absurd (omega arith)
 section_again s ss (suc n) next (b ∷ front) back h l k o =
-    let few : length back ≤ n = omega (arith, l, length-append front back) in
-    ap (λ r. and_then r (λ content rest. placed next b content (sections_at n next rest) (sections_at n (b + 1) rest))) (bytes_exact.again front back s.content h.1)
-    ∙ elim o [
-      | inl w ↦ placed_custom next b s.content (sections_at n next back) (sections_at n (b + 1) back) (h.0 ∙ w.0) w.1 ∙ section_is b s ss (sections_at n next back) h.0 (k n next few w.2)
-      | inr w ↦
-          let same : s.id ≡ b = sym h.0 in
-          placed_known next b s.content (sections_at n next back) (sections_at n (b + 1) back) (omega (arith, same, w.0)) (omega (arith, same, w.1)) (omega (arith, same, w.2))
-          ∙ section_is b s ss (sections_at n (b + 1) back) h.0 (k n (b + 1) few (subst (λ i. InOrder (i + 1) ss) same w.3))
-    ]
+    let p = order_first next s ss o in
+    ap (λ r. and_then r (λ s rest. option_map (λ ss. s.0 ∷ ss) (sections_at n s.1 rest))) ((section_exact next).again (b ∷ front) back (s, p.0) (h, p.1))
+    ∙ ap (λ r. option_map (λ ss. s ∷ ss) r) (k n p.0 (omega (arith, l, length-append front back)) p.2)
 
 sections_again : (ss : List Section) (n next : ℕ) (bytes : List ℕ) → length bytes ≤ n → SpellsEach SpellsSection bytes ss → InOrder next ss → sections_at n next bytes ≡ Some ss
-sections_again [] n next bytes l h o = ap (λ b. sections_at n next b) h ∙ none_left n next
+sections_again [] n next bytes l h o = ap (λ b. sections_at n next b) h
 sections_again (s ∷ ss) n next bytes l h o =
     ap (λ b. sections_at n next b) h.parts
     ∙ section_again s ss n next h.front h.back h.first (subst (λ b. length b ≤ n) h.parts l) (λ m later k q. sections_again ss m later h.back k h.second q) o
 
-held_takes : {X : Type 0} {S : List ℕ → X → Type 0} {r : List ℕ → Option (X × List ℕ)} → IsExact S r → (id : ℕ) (ss : List Section) (xs : List X) → held_at r id ss ≡ Some xs → Holds S id ss xs
-held_takes {X} {S} {r} e id ss xs h = held_is (content_of id ss) h where
-  held_is : (o : Option (List ℕ)) → all_held r o ≡ Some xs → MatchOption o (xs ≡ []) (λ content. SpellsVec S content xs)
-  held_is None h = sym (some_is _ _ h)
-  held_is (Some content) h = all_spelled (vec_exact e) content xs h
+-- reading sections gives just what they hold
+record IsHeld {X : Type 0} (H : List Section → X → Type 0) (r : List Section → Option X) : Type 0 where
+  takes : (ss : List Section) (x : X) → r ss ≡ Some x → H ss x
+  again : (ss : List Section) (x : X) → H ss x → r ss ≡ Some x
 
-held_again : {X : Type 0} {S : List ℕ → X → Type 0} {r : List ℕ → Option (X × List ℕ)} → IsExact S r → (id : ℕ) (ss : List Section) (xs : List X) → Holds S id ss xs → held_at r id ss ≡ Some xs
-held_again {X} {S} {r} e id ss xs h = held_is (content_of id ss) h where
-  held_is : (o : Option (List ℕ)) → MatchOption o (xs ≡ []) (λ content. SpellsVec S content xs) → all_held r o ≡ Some xs
-  held_is None h = ap (λ z. Some z) (sym h)
-  held_is (Some content) h = all_again (vec_exact e) content xs h
+held_exact : {X : Type 0} {S : List ℕ → X → Type 0} {r : List ℕ → Option (X × List ℕ)} (id : ℕ) → IsExact S r → IsHeld (Holds S id) (held_at r id)
+held_exact {X} {S} {r} id e = record { takes = λ ss xs h. takes (content_of id ss) xs h; again = λ ss xs h. again (content_of id ss) xs h } where
+  takes : (o : Option (List ℕ)) (xs : List X) → all_held r o ≡ Some xs → MatchOption o (xs ≡ []) (λ content. SpellsVec S content xs)
+  takes None xs h = sym (some_is _ _ h)
+  takes (Some content) xs h = all_spelled (vec_exact e) content xs h
 
-start_takes : (ss : List Section) (x : Option ℕ) → start_held (content_of 8 ss) ≡ Some x → HoldsStart ss x
-start_takes ss x h = start_is (content_of 8 ss) refl x h where
-  start_is : (o : Option (List ℕ)) → content_of 8 ss ≡ o → (x : Option ℕ) → start_held o ≡ Some x → HoldsStart ss x
-  start_is None e x h = subst (λ z. HoldsStart ss z) (some_is _ _ h) e
-  start_is (Some content) e x h =
+  again : (o : Option (List ℕ)) (xs : List X) → MatchOption o (xs ≡ []) (λ content. SpellsVec S content xs) → all_held r o ≡ Some xs
+  again None xs h = ap (λ z. Some z) (sym h)
+  again (Some content) xs h = all_again (vec_exact e) content xs h
+
+start_exact : IsHeld HoldsStart (λ ss. start_held (content_of 8 ss))
+start_exact = record { takes = λ ss x h. takes ss (content_of 8 ss) refl x h; again = again } where
+  takes : (ss : List Section) (o : Option (List ℕ)) → content_of 8 ss ≡ o → (x : Option ℕ) → start_held o ≡ Some x → HoldsStart ss x
+  takes ss None e x h = subst (λ z. HoldsStart ss z) (some_is _ _ h) e
+  takes ss (Some content) e x h =
       let m = map_some (λ f. Some f) (all_of (u32_at content)) x h in
       subst (λ z. HoldsStart ss z) m.2 (subst (λ o. MatchOption o ⊥ (λ content. SpellsU32 content m.0)) (sym e) (all_spelled u32_exact content m.0 m.1))
 
-start_again : (ss : List Section) (x : Option ℕ) → HoldsStart ss x → start_held (content_of 8 ss) ≡ Some x
-start_again ss None h = ap start_held h
-start_again ss (Some f) h = start_is (content_of 8 ss) h where
-  start_is : (o : Option (List ℕ)) → MatchOption o ⊥ (λ content. SpellsU32 content f) → start_held o ≡ Some (Some f)
-  start_is None h = absurd h
-  start_is (Some content) h = ap (λ o. option_map (λ f. Some f) o) (all_again u32_exact content f h)
+  from : (f : ℕ) (o : Option (List ℕ)) → MatchOption o ⊥ (λ content. SpellsU32 content f) → start_held o ≡ Some (Some f)
+  from f None h = absurd h
+  from f (Some content) h = ap (λ o. option_map (λ f. Some f) o) (all_again u32_exact content f h)
+
+  again : (ss : List Section) (x : Option ℕ) → HoldsStart ss x → start_held (content_of 8 ss) ≡ Some x
+  again ss None h = ap start_held h
+  again ss (Some f) h = from f (content_of 8 ss) h
+
+both_exact : {X Y : Type 0} {H : List Section → X → Type 0} {K : List Section → Y → Type 0} {r : List Section → Option X} {s : List Section → Option Y} → IsHeld H r → IsHeld K s →
+    IsHeld (λ ss p. H ss p.0 × K ss p.1) (λ ss. both (r ss) (s ss))
+unfolding both
+both_exact {X} {Y} {H} {K} {r} {s} d e = record {
+  takes = λ ss p h. let q = some (r ss) (s ss) p h in (d.takes ss p.0 q.0, e.takes ss p.1 q.1);
+  again = λ ss p h. ap (λ o. both o (s ss)) (d.again ss p.0 h.0) ∙ ap (λ o. both (Some p.0) o) (e.again ss p.1 h.1);
+} where
+  some : (o : Option X) (q : Option Y) (z : X × Y) → both o q ≡ Some z → (o ≡ Some z.0) × (q ≡ Some z.1)
+  some None q z h = cc
+  some (Some x) None z h = cc
+  some (Some x) (Some y) z h = (ap (λ w. Some w.0) (some_is _ _ h), ap (λ w. Some w.1) (some_is _ _ h))
+
+-- what the sections hold
+abbrev Hold : List Section → Fields → Type 0
+Hold ss (types, (imports, (functions, (tables, (memories, (globals, (exports, (start, (elements, (codes, segments)))))))))) =
+    Holds SpellsFuncType 1 ss types × (Holds SpellsImport 2 ss imports × (Holds SpellsU32 3 ss functions × (Holds SpellsTable 4 ss tables × (Holds SpellsMemory 5 ss memories
+    × (Holds SpellsGlobal 6 ss globals × (Holds SpellsExport 7 ss exports × (HoldsStart ss start × (Holds SpellsElement 9 ss elements × (Holds SpellsCode 10 ss codes × Holds SpellsSegment 11 ss segments)))))))))
+
+fields_exact : IsHeld Hold fields_of
+fields_exact =
+    both_exact (held_exact 1 functype_exact) (both_exact (held_exact 2 import_exact) (both_exact (held_exact 3 u32_exact) (both_exact (held_exact 4 table_exact)
+    (both_exact (held_exact 5 memory_exact) (both_exact (held_exact 6 global_exact) (both_exact (held_exact 7 export_exact) (both_exact start_exact
+    (both_exact (held_exact 9 element_exact) (both_exact (held_exact 10 code_exact) (held_exact 11 segment_exact))))))))))
 
 preamble_takes : (cs bytes body : List ℕ) → preamble_at cs bytes ≡ Some body → bytes ≡ cs ++ body
 preamble_takes [] bytes body h = some_is _ _ h
@@ -162,37 +178,27 @@ unfolding module_at body_at module_of
 module_takes bytes m h =
     let p = so_some body_at (preamble_at preamble bytes) m h in
     let s = so_some module_of (sections_at (length p.0) 1 p.0) m p.2 in
-    let ss = s.0 in
-    let t = sections_take (length p.0) 1 p.0 ss s.1 in
-    let f = so_some (λ f. counted (module_with f)) (fields_of ss) m s.2 in
+    let t = sections_take (length p.0) 1 p.0 s.0 s.1 in
+    let f = so_some (λ f. counted (module_with f)) (fields_of s.0) m s.2 in
     let c = chose_some (length (module_with f.0).functions == length (module_with f.0).codes) (Some (module_with f.0)) m f.2 in
-    let b1 = both_some _ _ f.0 f.1 in
-    let b2 = both_some _ _ f.0.1 b1.1 in
-    let b3 = both_some _ _ f.0.1.1 b2.1 in
-    let b4 = both_some _ _ f.0.1.1.1 b3.1 in
-    let b5 = both_some _ _ f.0.1.1.1.1 b4.1 in
-    let b6 = both_some _ _ f.0.1.1.1.1.1 b5.1 in
-    let b7 = both_some _ _ f.0.1.1.1.1.1.1 b6.1 in
-    let b8 = both_some _ _ f.0.1.1.1.1.1.1.1 b7.1 in
-    let b9 = both_some _ _ f.0.1.1.1.1.1.1.1.1 b8.1 in
-    let b10 = both_some _ _ f.0.1.1.1.1.1.1.1.1.1 b9.1 in
+    let (types, (imports, (functions, (tables, (memories, (globals, (exports, (start, (elements, (codes, segments)))))))))) = fields_exact.takes s.0 f.0 f.1 in
     subst (λ z. SpellsModule bytes z) (some_is _ _ c.1) (record {
-      sections = ss;
+      sections = s.0;
       body = p.0;
       begins = preamble_takes preamble bytes p.0 p.1;
       parts = t.0;
       order = t.1;
-      types = held_takes functype_exact 1 ss _ b1.0;
-      imports = held_takes import_exact 2 ss _ b2.0;
-      functions = held_takes u32_exact 3 ss _ b3.0;
-      tables = held_takes table_exact 4 ss _ b4.0;
-      memories = held_takes memory_exact 5 ss _ b5.0;
-      globals = held_takes global_exact 6 ss _ b6.0;
-      exports = held_takes export_exact 7 ss _ b7.0;
-      start = start_takes ss _ b8.0;
-      elements = held_takes element_exact 9 ss _ b9.0;
-      codes = held_takes code_exact 10 ss _ b10.0;
-      segments = held_takes segment_exact 11 ss _ b10.1;
+      types = types;
+      imports = imports;
+      functions = functions;
+      tables = tables;
+      memories = memories;
+      globals = globals;
+      exports = exports;
+      start = start;
+      elements = elements;
+      codes = codes;
+      segments = segments;
       counts = eqb-true _ _ c.0;
     })
 
@@ -200,22 +206,13 @@ module_takes bytes m h =
 pub module_again : (bytes : List ℕ) (m : Module) → SpellsModule bytes m → module_at bytes ≡ Some m
 unfolding module_at body_at module_of
 module_again bytes m h =
-    let ss = h.sections in
-    let fields : fields_of ss ≡ Some (m.types, (m.imports, (m.functions, (m.tables, (m.memories, (m.globals, (m.exports, (m.start, (m.elements, (m.codes, m.segments)))))))))) =
-    both_again _ _ _ _ (held_again functype_exact 1 ss m.types h.types)
-    (both_again _ _ _ _ (held_again import_exact 2 ss m.imports h.imports)
-    (both_again _ _ _ _ (held_again u32_exact 3 ss m.functions h.functions)
-    (both_again _ _ _ _ (held_again table_exact 4 ss m.tables h.tables)
-    (both_again _ _ _ _ (held_again memory_exact 5 ss m.memories h.memories)
-    (both_again _ _ _ _ (held_again global_exact 6 ss m.globals h.globals)
-    (both_again _ _ _ _ (held_again export_exact 7 ss m.exports h.exports)
-    (both_again _ _ _ _ (start_again ss m.start h.start)
-    (both_again _ _ _ _ (held_again element_exact 9 ss m.elements h.elements)
-    (both_again _ _ _ _ (held_again code_exact 10 ss m.codes h.codes) (held_again segment_exact 11 ss m.segments h.segments)))))))))) in
     ap (λ b. option_and_then body_at (preamble_at preamble b)) h.begins
     ∙ ap (λ o. option_and_then body_at o) (preamble_again preamble h.body)
-    ∙ ap (λ o. option_and_then module_of o) (sections_again ss (length h.body) 1 h.body (omega arith) h.parts h.order)
-    ∙ ap (λ o. option_and_then (λ f. counted (module_with f)) o) fields
+    ∙ ap (λ o. option_and_then module_of o) (sections_again h.sections (length h.body) 1 h.body (omega arith) h.parts h.order)
+    ∙ ap (λ o. option_and_then (λ f. counted (module_with f)) o)
+    (fields_exact.again h.sections
+    (m.types, (m.imports, (m.functions, (m.tables, (m.memories, (m.globals, (m.exports, (m.start, (m.elements, (m.codes, m.segments))))))))))
+    (h.types, (h.imports, (h.functions, (h.tables, (h.memories, (h.globals, (h.exports, (h.start, (h.elements, (h.codes, h.segments)))))))))))
     ∙ ap (λ t. cond t (Some m) None) (eq-eqb _ _ h.counts)
 
 pub one_module : (bytes : List ℕ) (m n : Module) → SpellsModule bytes m → SpellsModule bytes n → m ≡ n

@@ -1,19 +1,16 @@
 -- The reading of an expression step by step.
-use Rattle.std.proofs.Common.{◌≡◌, ℕ, zero, suc, ◌+◌, ◌≤◌, ◌<◌, Bool, true, false, cond, List, [], ◌∷◌, ◌++◌, length, Option, Some, None, refl, sym, ◌∙◌, ap, subst, arith, length-append}
+use Rattle.std.proofs.Common.{◌≡◌, ℕ, zero, suc, ◌≤◌, ◌<◌, List, [], ◌∷◌, length, Option, Some, None, refl, sym, ◌∙◌, ap, subst, arith, length-append}
 use Rattle.wasm_ast.specs.declared.instr.Instr.{Instr}
-use Rattle.wasm_ast.specs.declared.opcode.Opcode.{Opcode}
+use Rattle.wasm_ast.specs.declared.opcode.{Opcode.Opcode, AtomicOpcode.AtomicOpcode}
 use Rattle.wasm_ast.specs.declared.opcode.Opcode.TheVariants as op
-use Rattle.wasm_ast.specs.declared.opcode.AtomicOpcode.{AtomicOpcode}
 use Rattle.wasm_ast.specs.declared.opcode.AtomicOpcode.TheVariants as atomic
 use Rattle.wasm_ast.specs.Sequence.{Sequence}
 use Rattle.wasm_ast.specs.Built.{Built, NamesNone, takes_else, with_else}
 use Rattle.wasm_ast.specs.OpcodeTables.{opcode_at, atomic_at, atomic_plan_of, SpellsPlan, SpellsBehind}
-use Rattle.wasm_reading.specs.declared.exprs.Shape.{Shape}
+use Rattle.wasm_reading.specs.declared.exprs.{Shape.Shape, Step.Step}
 use Rattle.wasm_reading.specs.declared.exprs.Shape.TheVariants as shape
-use Rattle.wasm_reading.specs.declared.exprs.Step.{Step}
-use Rattle.wasm_reading.specs.declared.exprs.Step.TheVariants.{Going, Complete}
+use Rattle.wasm_reading.specs.declared.exprs.Step.TheVariants.{Continue, Complete}
 use Rattle.wasm_reading.specs.ReadValues.{and_then, mapped, IsExact}
-use Rattle.wasm_reading.specs.ReadTypes.{blocktype_at}
 use Rattle.wasm_reading.specs.ReadInstr.{immediates_at}
 use Rattle.wasm_reading.specs.ReadExpr.{shape_of, behind_shape, step_at, goes_on, steps_at, rest_at}
 use Rattle.wasm_reading.proofs.ValueLaws.{some_is, read_first, chose_some}
@@ -48,7 +45,7 @@ mapped_shorter {r = r} exact f bytes y rest h =
 -- a step takes a byte at least
 shape_shorter : (of : Shape) (o : Opcode) (v : Built) (bytes : List ℕ) (p : Step) (rest : List ℕ) → behind_shape of o v bytes ≡ Some (p, rest) → length rest ≤ length bytes
 shape_shorter shape.End o v bytes p rest h = omega (arith, ap length (ap (λ z. z.1) (some_is _ _ h)))
-shape_shorter shape.Else o v bytes p rest h = omega (arith, ap length (ap (λ z. z.1) (some_is _ _ (chose_some (takes_else v.opens) (Some (Going (with_else v), bytes)) (p, rest) h).1)))
+shape_shorter shape.Else o v bytes p rest h = omega (arith, ap length (ap (λ z. z.1) (some_is _ _ (chose_some (takes_else v.opens) (Some (Continue (with_else v), bytes)) (p, rest) h).1)))
 shape_shorter (shape.Begin c) o v bytes p rest h = mapped_shorter blocktype_exact _ bytes p rest h
 shape_shorter shape.Plain o v bytes p rest h = mapped_shorter (immediates_exact o) _ bytes p rest h
 
@@ -61,7 +58,7 @@ same_behind : (f g : Built → List ℕ → Option (Sequence × List ℕ)) (v : 
     and_then (step_at v bytes) (goes_on f) ≡ and_then (step_at v bytes) (goes_on g)
 same_behind f g v bytes h = same (step_at v bytes) refl where
   goes_same : (p : Step) (rest : List ℕ) → length rest < length bytes → goes_on f p rest ≡ goes_on g p rest
-  goes_same (Going w) rest l = h w rest l
+  goes_same (Continue w) rest l = h w rest l
   goes_same (Complete s) rest l = refl
 
   same : (o : Option (Step × List ℕ)) → step_at v bytes ≡ o → and_then o (goes_on f) ≡ and_then o (goes_on g)

@@ -1,30 +1,15 @@
 -- Reading types takes just what is spelled so.
-use Rattle.std.proofs.Common.{◌≡◌, inl, inr, ℕ, ◌==◌, Bool, true, false, cond, List, [], ◌∷◌, ◌++◌, Option, Some, None, refl, sym, ◌∙◌, ap, eqb-true}
-use Rattle.std.specs.Option.{option_map}
-use Rattle.wasm_ast.specs.declared.types.ValType.{ValType}
+use Rattle.std.proofs.Common.{◌≡◌, ℕ, Bool, true, false, cond, List, [], ◌∷◌, ◌++◌, Option, Some, None, refl, sym, ◌∙◌, ap, arith}
+use Rattle.wasm_ast.specs.declared.types.{ValType.ValType, Limits.Limits}
 use Rattle.wasm_ast.specs.declared.types.ValType.TheVariants.{I32, I64, F32, F64}
-use Rattle.wasm_ast.specs.declared.types.Limits.{Limits}
 use Rattle.wasm_ast.specs.Spelling.{Joined, Behind, SpellsU32}
 use Rattle.wasm_ast.specs.SpelledTypes.{valtype_byte, SpellsValType, SpellsBlockType, SpellsFuncType, LimitsForm, SpellsMemory, SpellsTable, SpellsGlobalType}
-use Rattle.wasm_reading.specs.ReadValues.{pair_at, u32_at, IsExact}
+use Rattle.wasm_reading.specs.ReadValues.{and_then, pair_at, next_at, u32_at, IsExact}
 use Rattle.wasm_reading.specs.ReadTypes.{valtype_of, valtype_at, blocktype_of, blocktype_at, functype_at, one_limit, two_limits, memory_at, unshared_at, table_at, flag_of, globaltype_at}
-use Rattle.wasm_reading.proofs.ValueLaws.{chosen, chose_some, some_is, mapped_exact, pair_exact, behind_exact, u32_exact, vec_exact, byte_exact, exact_as, no_tag, tag_takes, tagged_takes, tag_again}
+use Rattle.wasm_reading.proofs.ValueLaws.{mapped_exact, pair_exact, behind_exact, u32_exact, vec_exact, byte_exact, exact_as, no_tag, tag_takes, tagged_takes, tag_again}
 
 valtype_of_is : (b : ℕ) (x : ValType) → valtype_of b ≡ Some x → b ≡ valtype_byte x
-valtype_of_is b x h =
-    elim (chosen (b == 0x7F) _ _ (Some x) h) [
-      | inl w ↦ eqb-true b 0x7F w.0 ∙ ap valtype_byte (some_is _ _ w.1)
-      | inr w ↦
-          elim (chosen (b == 0x7E) _ _ (Some x) w.1) [
-            | inl v ↦ eqb-true b 0x7E v.0 ∙ ap valtype_byte (some_is _ _ v.1)
-            | inr v ↦
-                elim (chosen (b == 0x7D) _ _ (Some x) v.1) [
-                  | inl u ↦ eqb-true b 0x7D u.0 ∙ ap valtype_byte (some_is _ _ u.1)
-                  | inr u ↦
-                      let t = chose_some (b == 0x7C) (Some F64) x u.1 in eqb-true b 0x7C t.0 ∙ ap valtype_byte (some_is _ _ t.1)
-                ]
-          ]
-    ]
+valtype_of_is b x h = grind arith
 
 of_valtype : (x : ValType) → valtype_of (valtype_byte x) ≡ Some x
 of_valtype I32 = refl
@@ -39,13 +24,8 @@ abbrev blocktype_byte : Option ValType → ℕ
 blocktype_byte None = 0x40
 blocktype_byte (Some of) = valtype_byte of
 
-blocktype_is : (b : ℕ) (o : Option ValType) (x : Option ValType) → valtype_of b ≡ o → option_map (λ of. Some of) o ≡ Some x → b ≡ blocktype_byte x
-blocktype_is b None x e h = cc
-blocktype_is b (Some of) x e h = valtype_of_is b of e ∙ ap blocktype_byte (some_is _ _ h)
-
 blocktype_of_is : (b : ℕ) (x : Option ValType) → blocktype_of b ≡ Some x → b ≡ blocktype_byte x
-blocktype_of_is b x h =
-    elim (chosen (b == 0x40) _ _ (Some x) h) [ inl w ↦ eqb-true b 0x40 w.0 ∙ ap blocktype_byte (some_is _ _ w.1) | inr w ↦ blocktype_is b (valtype_of b) x refl w.1 ]
+blocktype_of_is b x h = grind arith
 
 of_blocktype : (x : Option ValType) → blocktype_of (blocktype_byte x) ≡ Some x
 of_blocktype None = refl
@@ -85,8 +65,8 @@ limits_again min None true front rest h = absurd h
 pub memory_exact : IsExact SpellsMemory memory_at
 memory_exact = record {
   takes = tagged_takes
-      (tag_takes 0x00 one_limit u32_exact (λ front x s. (refl, s))
-      (tag_takes 0x01 (two_limits false) two_exact (λ front x s. (refl, s)) (tag_takes 0x03 (two_limits true) two_exact (λ front x s. (refl, s)) (no_tag SpellsMemory))));
+      (tag_takes 0x03 (two_limits true) two_exact (λ front x s. (refl, s))
+      (tag_takes 0x00 one_limit u32_exact (λ front x s. (refl, s)) (tag_takes 0x01 (two_limits false) two_exact (λ front x s. (refl, s)) (no_tag SpellsMemory))));
   again = λ front rest l h. limits_again l.min l.max l.shared front rest h;
 }
 
@@ -94,11 +74,14 @@ memory_exact = record {
 abbrev Unshared : List ℕ → Limits → Type 0
 Unshared bytes l = (l.shared ≡ false) × LimitsForm l.min l.max false bytes
 
-unshared_again : (min : ℕ) (max : Option ℕ) (front rest : List ℕ) → LimitsForm min max false front → unshared_at (front ++ rest) ≡ Some (record { min = min; max = max; shared = false }, rest)
-unshared_again min None front rest h = tag_again unshared_at 0x00 one_limit u32_exact (λ bytes. refl) front rest min h
-unshared_again min (Some max) front rest h = tag_again unshared_at 0x01 (two_limits false) two_exact (λ bytes. refl) front rest (min, max) h
+abbrev unshared_limits_at : List ℕ → Option (Limits × List ℕ)
+unshared_limits_at bytes = and_then (next_at bytes) unshared_at
 
-unshared_exact : IsExact Unshared unshared_at
+unshared_again : (min : ℕ) (max : Option ℕ) (front rest : List ℕ) → LimitsForm min max false front → unshared_limits_at (front ++ rest) ≡ Some (record { min = min; max = max; shared = false }, rest)
+unshared_again min None front rest h = tag_again unshared_limits_at 0x00 one_limit u32_exact (λ bytes. refl) front rest min h
+unshared_again min (Some max) front rest h = tag_again unshared_limits_at 0x01 (two_limits false) two_exact (λ bytes. refl) front rest (min, max) h
+
+unshared_exact : IsExact Unshared unshared_limits_at
 unshared_exact = record {
   takes = tagged_takes (tag_takes 0x00 one_limit u32_exact (λ front x s. (refl, (refl, s))) (tag_takes 0x01 (two_limits false) two_exact (λ front x s. (refl, (refl, s))) (no_tag Unshared)));
   again = λ front rest l h. unshared_again l.min l.max front rest h.1 ∙ ap (λ s. Some (record { min = l.min; max = l.max; shared = s }, rest)) (sym h.0);
@@ -116,12 +99,7 @@ pub table_exact : IsExact SpellsTable table_at
 table_exact = exact_as SpellsTable to_table from_table (behind_exact 0x70 unshared_exact)
 
 flag_of_is : (b : ℕ) (x : Bool) → flag_of b ≡ Some x → b ≡ cond x 0x01 0x00
-flag_of_is b x h =
-    elim (chosen (b == 0x00) _ _ (Some x) h) [
-      | inl w ↦ eqb-true b 0x00 w.0 ∙ ap (λ y. cond y 0x01 0x00) (some_is _ _ w.1)
-      | inr w ↦
-          let t = chose_some (b == 0x01) (Some true) x w.1 in eqb-true b 0x01 t.0 ∙ ap (λ y. cond y 0x01 0x00) (some_is _ _ t.1)
-    ]
+flag_of_is b x h = grind arith
 
 of_flag : (x : Bool) → flag_of (cond x 0x01 0x00) ≡ Some x
 of_flag true = refl

@@ -1,14 +1,13 @@
 -- Reading the parts of the binary format takes just what is spelled so.
-use Rattle.std.proofs.Common.{◌≡◌, ◌⊎◌, inl, inr, ℕ, zero, suc, ◌==◌, Bool, true, false, cond, List, [], ◌∷◌, ◌++◌, length, take, drop, Option, Some, None, Result, Ok, Err, refl, sym, ◌∙◌, ap, subst, arith, append_assoc, nat_lt, eq-eqb, eqb-true, ltb-false, le-ltb}
+use Rattle.std.proofs.Common.{◌≡◌, ◌⊎◌, inl, inr, ℕ, zero, suc, ◌==◌, Bool, true, false, cond, List, [], ◌∷◌, ◌++◌, length, take, drop, Option, Some, None, Result, Ok, Err, refl, sym, ◌∙◌, ap, subst, arith, append_assoc, nat_lt, eq-eqb, eqb-true, ltb-false, le-ltb, length-append}
 use Rattle.std.proofs.lemmas.List.{take-append-drop, append-nil, length-take-le}
-use Rattle.std.proofs.Common.{length-append}
 use Rattle.std.proofs.Math.Seq.{take-append_seam, drop-append_seam}
 use Rattle.std.specs.Result.{result_ok}
 use Rattle.std.specs.Str.{is_utf8}
 use Rattle.std.proofs.lemmas.Str.{IsUtf8-from_is_utf8, is_utf8-from_IsUtf8}
 use Rattle.byte_cursor.specs.declared.leb.CursorFault.{CursorFault}
-use Rattle.byte_cursor.specs.Integers.{BeginsWith, SpellsSigned, unsigned_last, unsigned_joined, signed_last, signed_joined}
-use Rattle.byte_cursor.specs.ReadNumbers.{unsigned_at, signed_at}
+use Rattle.byte_cursor.specs.Integers.{BeginsWith, Spells, SpellsSigned, unsigned_last, unsigned_joined, signed_last, signed_joined}
+use Rattle.byte_cursor.specs.ReadNumbers.{number_at, unsigned_at, signed_at}
 use Rattle.byte_cursor.proofs.Laws.{number_takes, number_again}
 use Rattle.wasm_ast.specs.Spelling.{Joined, Behind, SpellsU32, SpellsEach, SpellsVec, SpellsBytes, SpellsName, Sized}
 use Rattle.wasm_reading.specs.ReadValues.{and_then, mapped, pair_at, next_at, behind_at, u32_at, i32_at, i64_at, each_at, vec_at, span_at, bytes_at, name_at, if_ended, all_of, with_rest, byte_as, sized_at, IsExact}
@@ -21,6 +20,10 @@ chosen false x y z e = inr (refl, e)
 pub chose_some : {A : Type 0} (b : Bool) (x : Option A) (z : A) → cond b x None ≡ Some z → (b ≡ true) × (x ≡ Some z)
 chose_some true x z e = (refl, e)
 chose_some false x z e = cc
+
+pub chose_other : {A : Type 0} (b : Bool) (y : Option A) (z : A) → cond b None y ≡ Some z → (b ≡ false) × (y ≡ Some z)
+chose_other true y z e = cc
+chose_other false y z e = (refl, e)
 
 -- reading that gave something gave something before
 pub read_first : {X Y : Type 0} (o : Option (X × List ℕ)) (f : X → List ℕ → Option Y) (y : Y) → and_then o f ≡ Some y →
@@ -134,26 +137,23 @@ ok_of : {X : Type 0} (r : Result X CursorFault) (x : X) → result_ok r ≡ Some
 ok_of (Ok y) x h = ap (λ z. Ok z) (some_is y x h)
 ok_of (Err e) x h = cc
 
+number_exact : {N : Type 0} (last : ℕ → ℕ → Option N) (joined : ℕ → N → N) (bits : ℕ) → IsExact (Spells last joined bits) (λ bytes. result_ok (number_at last joined bits bytes))
+number_exact last joined bits = record {
+  takes = λ bytes x rest h. number_takes last joined bits bytes x rest (ok_of _ _ h);
+  again = λ front rest x h. ap result_ok (number_again last joined bits front x rest h);
+}
+
 pub u32_exact : IsExact SpellsU32 u32_at
 unfolding u32_at unsigned_at
-u32_exact = record {
-  takes = λ bytes x rest h. number_takes unsigned_last unsigned_joined 32 bytes x rest (ok_of _ _ h);
-  again = λ front rest x h. ap result_ok (number_again unsigned_last unsigned_joined 32 front x rest h);
-}
+u32_exact = number_exact unsigned_last unsigned_joined 32
 
 pub i32_exact : IsExact (SpellsSigned 32) i32_at
 unfolding i32_at signed_at
-i32_exact = record {
-  takes = λ bytes x rest h. number_takes signed_last signed_joined 32 bytes x rest (ok_of _ _ h);
-  again = λ front rest x h. ap result_ok (number_again signed_last signed_joined 32 front x rest h);
-}
+i32_exact = number_exact signed_last signed_joined 32
 
 pub i64_exact : IsExact (SpellsSigned 64) i64_at
 unfolding i64_at signed_at
-i64_exact = record {
-  takes = λ bytes x rest h. number_takes signed_last signed_joined 64 bytes x rest (ok_of _ _ h);
-  again = λ front rest x h. ap result_ok (number_again signed_last signed_joined 64 front x rest h);
-}
+i64_exact = number_exact signed_last signed_joined 64
 
 -- so many items
 module _ {X : Type 0} {S : List ℕ → X → Type 0} {r : List ℕ → Option (X × List ℕ)} (e : IsExact S r) where
@@ -189,12 +189,8 @@ module _ {X : Type 0} {S : List ℕ → X → Type 0} {r : List ℕ → Option (
 
 span_takes : (n : ℕ) (bytes xs rest : List ℕ) → span_at n bytes ≡ Some (xs, rest) → (length xs ≡ n) × (bytes ≡ xs ++ rest)
 span_takes n bytes xs rest h =
-    elim (chosen (nat_lt (length bytes) n) None (Some (take n bytes, drop n bytes)) (Some (xs, rest)) h) [
-      | inl w ↦ let no : ◌≡◌ {A = Option (List ℕ × List ℕ)} None (Some (xs, rest)) = w.1 in cc
-      | inr w ↦
-          subst (λ (z : List ℕ × List ℕ). (length z.0 ≡ n) × (bytes ≡ z.0 ++ z.1)) (some_is _ _ w.1)
-          (length-take-le n bytes (ltb-false (length bytes) n w.0), sym (take-append-drop n bytes))
-    ]
+    let w = chose_other (nat_lt (length bytes) n) (Some (take n bytes, drop n bytes)) (xs, rest) h in
+    subst (λ (z : List ℕ × List ℕ). (length z.0 ≡ n) × (bytes ≡ z.0 ++ z.1)) (some_is _ _ w.1) (length-take-le n bytes (ltb-false (length bytes) n w.0), sym (take-append-drop n bytes))
 
 span_again : (xs rest : List ℕ) → span_at (length xs) (xs ++ rest) ≡ Some (xs, rest)
 span_again xs rest =
@@ -240,7 +236,7 @@ pub all_takes : {X : Type 0} (o : Option (X × List ℕ)) (x : X) → all_of o �
 all_takes None x h = cc
 all_takes (Some p) x h = let e = ended_takes p.1 p.0 x h in ap (λ z. Some (p.0, z)) e.0 ∙ ap (λ z. Some (z, [])) e.1
 
-with_takes : {X : Type 0} (more : List ℕ) (o : Option X) (x : X) (rest : List ℕ) → with_rest more o ≡ Some (x, rest) → (o ≡ Some x) × (more ≡ rest)
+pub with_takes : {X : Type 0} (more : List ℕ) (o : Option X) (x : X) (rest : List ℕ) → with_rest more o ≡ Some (x, rest) → (o ≡ Some x) × (more ≡ rest)
 with_takes more None x rest h = cc
 with_takes more (Some y) x rest h = let p = some_is _ _ h in (ap (λ z. Some z.0) p, ap (λ z. z.1) p)
 
@@ -285,8 +281,3 @@ exact_as {X} {S} {r} T to from e = record {
   takes = λ bytes x rest h. let t = e.takes bytes x rest h in (t.0, to t.0 x t.1, t.2);
   again = λ front rest x h. e.again front rest x (from front x h);
 }
-
--- what bytes begin with is one thing, and one front spells it
-pub one_form : {X : Type 0} {S : List ℕ → X → Type 0} {r : List ℕ → Option (X × List ℕ)} → IsExact S r → (a b : List ℕ) (x y : X) → S a x → S b y → a ≡ b → x ≡ y
-one_form {X} {S} {r} e a b x y p q h =
-    some_is x y (sym (all_again e a x p) ∙ ap (λ c. all_of (r c)) h ∙ all_again e b y q)

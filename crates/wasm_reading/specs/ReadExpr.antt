@@ -7,10 +7,9 @@ use Rattle.wasm_ast.specs.declared.opcode.Opcode.TheVariants as op
 use Rattle.wasm_ast.specs.Sequence.{Sequence}
 use Rattle.wasm_ast.specs.Built.{Built, nothing_built, with_plain, with_open, takes_else, with_else, is_inside, with_end}
 use Rattle.wasm_ast.specs.OpcodeTables.{opcode_at}
-use Rattle.wasm_reading.specs.declared.exprs.Shape.{Shape}
+use Rattle.wasm_reading.specs.declared.exprs.{Shape.Shape, Step.Step}
 use Rattle.wasm_reading.specs.declared.exprs.Shape.TheVariants as shape
-use Rattle.wasm_reading.specs.declared.exprs.Step.{Step}
-use Rattle.wasm_reading.specs.declared.exprs.Step.TheVariants.{Going, Complete}
+use Rattle.wasm_reading.specs.declared.exprs.Step.TheVariants.{Continue, Complete}
 use Rattle.wasm_reading.specs.ReadValues.{and_then, mapped}
 use Rattle.wasm_reading.specs.ReadTypes.{blocktype_at}
 use Rattle.wasm_reading.specs.ReadInstr.{immediates_at}
@@ -26,14 +25,14 @@ shape_of o = shape.Plain
 
 -- an end is that of the innermost construct, or that of the expression
 abbrev pub end_step : Built → Step
-end_step v = if is_inside v.opens then Going (with_end v) else Complete v.before
+end_step v = if is_inside v.opens then Continue (with_end v) else Complete v.before
 
 -- behind an opcode
 abbrev pub behind_shape : Shape → Opcode → Built → List ℕ → Option (Step × List ℕ)
 behind_shape shape.End o v bytes = Some (end_step v, bytes)
-behind_shape shape.Else o v bytes = if takes_else v.opens then Some (Going (with_else v), bytes) else None
-behind_shape (shape.Begin c) o v bytes = mapped (λ of. Going (with_open c of v)) blocktype_at bytes
-behind_shape shape.Plain o v bytes = mapped (λ i. Going (with_plain i v)) (immediates_at o) bytes
+behind_shape shape.Else o v bytes = if takes_else v.opens then Some (Continue (with_else v), bytes) else None
+behind_shape (shape.Begin c) o v bytes = mapped (λ of. Continue (with_open c of v)) blocktype_at bytes
+behind_shape shape.Plain o v bytes = mapped (λ i. Continue (with_plain i v)) (immediates_at o) bytes
 
 -- an opcode and what stands behind it, where that much was read
 abbrev pub step_at : Built → List ℕ → Option (Step × List ℕ)
@@ -41,7 +40,7 @@ step_at v [] = None
 step_at v (b ∷ bytes) = behind_shape (shape_of (opcode_at b)) (opcode_at b) v bytes
 
 abbrev pub goes_on : (Built → List ℕ → Option (Sequence × List ℕ)) → Step → List ℕ → Option (Sequence × List ℕ)
-goes_on go (Going v) rest = go v rest
+goes_on go (Continue v) rest = go v rest
 goes_on go (Complete s) rest = Some (s, rest)
 
 -- the rest of an expression of which that much was read, in so many steps at most

@@ -1,10 +1,8 @@
 -- Reading instructions.
 use Rattle.std.specs.Prelude.{ℕ, List, Option, Some, None}
-use Rattle.wasm_ast.specs.declared.instr.Instr.{Instr}
-use Rattle.wasm_ast.specs.declared.instr.MemArg.{MemArg}
-use Rattle.wasm_ast.specs.declared.opcode.Opcode.{Opcode}
+use Rattle.wasm_ast.specs.declared.instr.{Instr.Instr, MemArg.MemArg}
+use Rattle.wasm_ast.specs.declared.opcode.{Opcode.Opcode, AtomicOpcode.AtomicOpcode}
 use Rattle.wasm_ast.specs.declared.opcode.Opcode.TheVariants as op
-use Rattle.wasm_ast.specs.declared.opcode.AtomicOpcode.{AtomicOpcode}
 use Rattle.wasm_ast.specs.declared.opcode.AtomicOpcode.TheVariants as atomic
 use Rattle.wasm_ast.specs.Immediates.{Immediates, Nothing, Index, Labels, IndexAndZero, Argument, Zero, Signed32, Signed64, Raw, Never, Value}
 use Rattle.wasm_ast.specs.OpcodeTables.{atomic_at, Plan, plan_of, atomic_plan_of}

@@ -1,23 +1,14 @@
 -- Reading modules.
 use Rattle.std.specs.Prelude.{ℕ, ◌+◌, ◌^◌, zero, suc, ◌==◌, nat_lt, if◌then◌else◌, List, [], ◌∷◌, length, Option, Some, None, is_some, option_and_then}
 use Rattle.std.specs.Option.{option_map}
-use Rattle.wasm_ast.specs.declared.types.FuncType.{FuncType}
-use Rattle.wasm_ast.specs.declared.types.Limits.{Limits}
+use Rattle.wasm_ast.specs.declared.types.{FuncType.FuncType, Limits.Limits}
 use Rattle.wasm_ast.specs.declared.locals.LocalGroup.{LocalGroup}
-use Rattle.wasm_ast.specs.declared.module.ImportKind.{ImportKind}
+use Rattle.wasm_ast.specs.declared.module.{ImportKind.ImportKind, Import.Import, GlobalVar.GlobalVar, ExportKind.ExportKind, Export.Export, Element.Element, Segment.Segment, Code.Code, Module.Module}
 use Rattle.wasm_ast.specs.declared.module.ImportKind.TheVariants as imported
-use Rattle.wasm_ast.specs.declared.module.Import.{Import}
-use Rattle.wasm_ast.specs.declared.module.GlobalVar.{GlobalVar}
-use Rattle.wasm_ast.specs.declared.module.ExportKind.{ExportKind}
 use Rattle.wasm_ast.specs.declared.module.ExportKind.TheVariants as exported
-use Rattle.wasm_ast.specs.declared.module.Export.{Export}
-use Rattle.wasm_ast.specs.declared.module.Element.{Element}
-use Rattle.wasm_ast.specs.declared.module.Segment.{Segment}
-use Rattle.wasm_ast.specs.declared.module.Code.{Code}
-use Rattle.wasm_ast.specs.declared.module.Module.{Module}
 use Rattle.wasm_ast.specs.Locals.{added}
 use Rattle.wasm_ast.specs.SpelledModule.{Section, content_of, preamble}
-use Rattle.wasm_reading.specs.ReadValues.{and_then, mapped, pair_at, next_at, u32_at, vec_at, bytes_at, name_at, all_of, sized_at}
+use Rattle.wasm_reading.specs.ReadValues.{and_then, mapped, pair_at, next_at, u32_at, vec_at, bytes_at, name_at, all_of, with_rest, sized_at}
 use Rattle.wasm_reading.specs.ReadTypes.{valtype_at, functype_at, memory_at, table_at, globaltype_at}
 use Rattle.wasm_reading.specs.ReadExpr.{expr_at}
 
@@ -65,24 +56,24 @@ locals_at bytes = and_then (u32_at bytes) (λ n rest. groups_at n 0 [] rest)
 abbrev pub code_at : List ℕ → Option (Code × List ℕ)
 code_at bytes = sized_at (mapped (λ c. record { locals = c.0; body = c.1 }) (pair_at locals_at expr_at)) bytes
 
--- a section in front of others
-abbrev pub with_section : ℕ → List ℕ → Option (List Section) → Option (List Section)
-with_section b content o = option_map (λ ss. record { id = b; content = content } ∷ ss) o
-
--- A section in front of the sections behind it, which are those from the same number on where it is a
--- custom section, which has a name; or those from its number on, which is in order.
-abbrev pub placed : ℕ → ℕ → List ℕ → Option (List Section) → Option (List Section) → Option (List Section)
-placed next b content same later =
+-- The number from which on the section behind one of that number may be: from the same on behind a
+-- custom section, which has a name; behind another, which is in order, from the following on.
+abbrev pub next_from : ℕ → ℕ → List ℕ → Option ℕ
+next_from next b content =
     if b == 0
-    then (if is_some (name_at content) then with_section b content same else None)
-    else (if nat_lt b next then None else (if nat_lt 11 b then None else with_section b content later))
+    then (if is_some (name_at content) then Some next else None)
+    else (if nat_lt b next then None else (if nat_lt 11 b then None else Some (b + 1)))
+
+-- a section of a number from that one on, or a custom one, and the number from which on the next may be
+abbrev pub section_at : ℕ → List ℕ → Option ((Section × ℕ) × List ℕ)
+section_at next bytes = and_then (next_at bytes) (λ b mid. and_then (bytes_at mid) (λ content rest.
+    with_rest rest (option_map (λ n. (record { id = b; content = content }, n)) (next_from next b content))))
 
 -- the sections from a number on, to the end of the bytes; at most so many
 abbrev pub sections_at : ℕ → ℕ → List ℕ → Option (List Section)
-sections_at zero next [] = Some []
+sections_at n next [] = Some []
 sections_at zero next (b ∷ bytes) = None
-sections_at (suc n) next [] = Some []
-sections_at (suc n) next (b ∷ bytes) = and_then (bytes_at bytes) (λ content rest. placed next b content (sections_at n next rest) (sections_at n (b + 1) rest))
+sections_at (suc n) next (b ∷ bytes) = and_then (section_at next (b ∷ bytes)) (λ s rest. option_map (λ ss. s.0 ∷ ss) (sections_at n s.1 rest))
 
 -- the items of a section, none where there is no such section
 abbrev pub all_held : {X : Type 0} → (List ℕ → Option (X × List ℕ)) → Option (List ℕ) → Option (List X)

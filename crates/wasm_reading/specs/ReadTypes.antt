@@ -1,10 +1,8 @@
 -- Reading types.
 use Rattle.std.specs.Prelude.{ℕ, Bool, true, false, ◌==◌, if◌then◌else◌, List, Option, Some, None}
 use Rattle.std.specs.Option.{option_map}
-use Rattle.wasm_ast.specs.declared.types.ValType.{ValType}
+use Rattle.wasm_ast.specs.declared.types.{ValType.ValType, FuncType.FuncType, Limits.Limits}
 use Rattle.wasm_ast.specs.declared.types.ValType.TheVariants.{I32, I64, F32, F64}
-use Rattle.wasm_ast.specs.declared.types.FuncType.{FuncType}
-use Rattle.wasm_ast.specs.declared.types.Limits.{Limits}
 use Rattle.wasm_reading.specs.ReadValues.{and_then, mapped, pair_at, next_at, behind_at, u32_at, vec_at, byte_as}
 
 -- the value type of a byte
@@ -29,19 +27,18 @@ one_limit min = record { min = min; max = None; shared = false }
 abbrev pub two_limits : Bool → ℕ × ℕ → Limits
 two_limits shared l = record { min = l.0; max = Some l.1; shared = shared }
 
-abbrev pub memory_at : List ℕ → Option (Limits × List ℕ)
-memory_at bytes = and_then (next_at bytes) (λ b rest.
-    if b == 0x00 then mapped one_limit u32_at rest
-    else (if b == 0x01 then mapped (two_limits false) (pair_at u32_at u32_at) rest
-    else (if b == 0x03 then mapped (two_limits true) (pair_at u32_at u32_at) rest else None)))
+abbrev pub bounded_at : Bool → List ℕ → Option (Limits × List ℕ)
+bounded_at shared bytes = mapped (two_limits shared) (pair_at u32_at u32_at) bytes
 
-abbrev pub unshared_at : List ℕ → Option (Limits × List ℕ)
-unshared_at bytes = and_then (next_at bytes) (λ b rest.
-    if b == 0x00 then mapped one_limit u32_at rest
-    else (if b == 0x01 then mapped (two_limits false) (pair_at u32_at u32_at) rest else None))
+-- limits that aren't shared, behind their flag
+abbrev pub unshared_at : ℕ → List ℕ → Option (Limits × List ℕ)
+unshared_at b bytes = if b == 0x00 then mapped one_limit u32_at bytes else (if b == 0x01 then bounded_at false bytes else None)
+
+abbrev pub memory_at : List ℕ → Option (Limits × List ℕ)
+memory_at bytes = and_then (next_at bytes) (λ b rest. if b == 0x03 then bounded_at true rest else unshared_at b rest)
 
 abbrev pub table_at : List ℕ → Option (Limits × List ℕ)
-table_at bytes = behind_at 0x70 unshared_at bytes
+table_at bytes = behind_at 0x70 (λ rest. and_then (next_at rest) unshared_at) bytes
 
 abbrev pub flag_of : ℕ → Option Bool
 flag_of b = if b == 0x00 then Some false else (if b == 0x01 then Some true else None)

@@ -20,20 +20,10 @@ use wx_types::Bytes;
 fn import_kind(cursor: &mut Cursor<'_>) -> Result<ImportKind, ReadFault>
     ensures { Gives (λ x. x) result cursor.new (import_kind_at cursor.old) }
 {
-    let kind = next(cursor)?;
-    match kind {
-        0x00 => {
-            let of = number(cursor)?;
-            Ok(ImportKind::Func(of))
-        }
-        0x01 => {
-            let limits = table(cursor)?;
-            Ok(ImportKind::Table(limits))
-        }
-        0x02 => {
-            let limits = memory(cursor)?;
-            Ok(ImportKind::Memory(limits))
-        }
+    match next(cursor)? {
+        0x00 => Ok(ImportKind::Func(number(cursor)?)),
+        0x01 => Ok(ImportKind::Table(table(cursor)?)),
+        0x02 => Ok(ImportKind::Memory(memory(cursor)?)),
         0x03 => {
             let (of, mutable) = globaltype(cursor)?;
             Ok(ImportKind::Global { of, mutable })
@@ -69,24 +59,11 @@ impl Read for GlobalVar {
 fn export_kind(cursor: &mut Cursor<'_>) -> Result<ExportKind, ReadFault>
     ensures { Gives (λ x. x) result cursor.new (export_kind_at cursor.old) }
 {
-    let kind = next(cursor)?;
-    match kind {
-        0x00 => {
-            let index = number(cursor)?;
-            Ok(ExportKind::Func(index))
-        }
-        0x01 => {
-            let index = number(cursor)?;
-            Ok(ExportKind::Table(index))
-        }
-        0x02 => {
-            let index = number(cursor)?;
-            Ok(ExportKind::Memory(index))
-        }
-        0x03 => {
-            let index = number(cursor)?;
-            Ok(ExportKind::Global(index))
-        }
+    match next(cursor)? {
+        0x00 => Ok(ExportKind::Func(number(cursor)?)),
+        0x01 => Ok(ExportKind::Table(number(cursor)?)),
+        0x02 => Ok(ExportKind::Memory(number(cursor)?)),
+        0x03 => Ok(ExportKind::Global(number(cursor)?)),
         _ => Err(ReadFault::Malformed),
     }
 }

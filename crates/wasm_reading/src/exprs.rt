@@ -39,7 +39,7 @@ fn shape_at(opcode: Opcode) -> Shape
 #[derive(Drop)]
 pub(crate) enum Step {
     /// That much was read, and there is more.
-    Going(BodyBuilder),
+    Continue(BodyBuilder),
     /// The whole expression.
     Complete(Body),
 }
@@ -49,7 +49,7 @@ fn end(alloc: Global, built: BodyBuilder) -> Result<Step, AllocError>
     ensures { IfOk result (λ s. s ≡ end_step built) }
 {
     if built.is_inside() {
-        Ok(Step::Going(built.end(alloc)?))
+        Ok(Step::Continue(built.end(alloc)?))
     } else {
         Ok(Step::Complete(built.finish()))
     }
@@ -72,16 +72,16 @@ fn next_step(
             if !built.takes_else() {
                 return Err(ReadFault::Malformed);
             }
-            Ok(Step::Going(built.else_(alloc)?))
+            Ok(Step::Continue(built.else_(alloc)?))
         }
         Shape::Begin(construct) => {
             let of = blocktype(cursor)?;
-            Ok(Step::Going(built.open(alloc, construct, of)?))
+            Ok(Step::Continue(built.open(alloc, construct, of)?))
         }
         Shape::Plain => {
             let instr = immediates(alloc, begun, cursor)?;
             built.plain(instr)?;
-            Ok(Step::Going(built))
+            Ok(Step::Continue(built))
         }
     }
 }
@@ -94,7 +94,7 @@ pub(crate) fn expr(alloc: Global, cursor: &mut Cursor<'_>) -> Result<Body, ReadF
     'steps: loop {
         match next_step(alloc, built, cursor)? {
             Step::Complete(body) => return Ok(body),
-            Step::Going(next) => built = next,
+            Step::Continue(next) => built = next,
         }
     }
 }

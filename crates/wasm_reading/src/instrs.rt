@@ -42,11 +42,10 @@ fn memarg(cursor: &mut Cursor<'_>) -> Result<MemArg, ReadFault>
 fn with_zero(cursor: &mut Cursor<'_>, instr: Instr) -> Result<Instr, ReadFault>
     ensures { Gives (λ x. x) result cursor.new (zero_at instr cursor.old) }
 {
-    let byte = next(cursor)?;
-    if byte != 0x00 {
-        return Err(ReadFault::Malformed);
+    match next(cursor)? {
+        0x00 => Ok(instr),
+        _ => Err(ReadFault::Malformed),
     }
-    Ok(instr)
 }
 
 /// The labels of a `br_table`.
@@ -64,11 +63,7 @@ fn call_indirect(cursor: &mut Cursor<'_>) -> Result<Instr, ReadFault>
     ensures { Gives (λ x. x) result cursor.new (immediates_at Opcode.CallIndirect cursor.old) }
 {
     let of = number(cursor)?;
-    let byte = next(cursor)?;
-    if byte != 0x00 {
-        return Err(ReadFault::Malformed);
-    }
-    Ok(Instr::CallIndirect(of))
+    with_zero(cursor, Instr::CallIndirect(of))
 }
 
 /// The bytes of a floating-point number.
@@ -83,14 +78,10 @@ fn float_const(cursor: &mut Cursor<'_>, n: u32) -> Result<Instr, ReadFault>
 fn atomic(cursor: &mut Cursor<'_>) -> Result<Instr, ReadFault>
     ensures { Gives (λ x. x) result cursor.new (atomic_instr_at cursor.old) }
 {
-    let byte = next(cursor)?;
-    match atomic_opcode(byte) {
+    match atomic_opcode(next(cursor)?) {
         AtomicOpcode::Illegal => Err(ReadFault::Malformed),
         AtomicOpcode::Fence => with_zero(cursor, Instr::Fence),
-        AtomicOpcode::Access(of) => {
-            let arg = memarg(cursor)?;
-            Ok(Instr::Access(of, arg))
-        }
+        AtomicOpcode::Access(of) => Ok(Instr::Access(of, memarg(cursor)?)),
     }
 }
 
@@ -107,41 +98,20 @@ pub(crate) fn immediates(
             Err(ReadFault::Malformed),
         Opcode::Unreachable => Ok(Instr::Unreachable),
         Opcode::Nop => Ok(Instr::Nop),
-        Opcode::Br => {
-            let label = number(cursor)?;
-            Ok(Instr::Br(label))
-        }
-        Opcode::BrIf => {
-            let label = number(cursor)?;
-            Ok(Instr::BrIf(label))
-        }
+        Opcode::Br => Ok(Instr::Br(number(cursor)?)),
+        Opcode::BrIf => Ok(Instr::BrIf(number(cursor)?)),
         Opcode::BrTable => br_table(alloc, cursor),
         Opcode::Return => Ok(Instr::Return),
-        Opcode::Call => {
-            let function = number(cursor)?;
-            Ok(Instr::Call(function))
-        }
+        Opcode::Call => Ok(Instr::Call(number(cursor)?)),
         Opcode::CallIndirect => call_indirect(cursor),
         Opcode::Drop => Ok(Instr::Drop),
         Opcode::Select => Ok(Instr::Select),
-        Opcode::Variable(of) => {
-            let index = number(cursor)?;
-            Ok(Instr::Variable(of, index))
-        }
-        Opcode::Access(of) => {
-            let arg = memarg(cursor)?;
-            Ok(Instr::Access(of, arg))
-        }
+        Opcode::Variable(of) => Ok(Instr::Variable(of, number(cursor)?)),
+        Opcode::Access(of) => Ok(Instr::Access(of, memarg(cursor)?)),
         Opcode::MemorySize => with_zero(cursor, Instr::MemorySize),
         Opcode::MemoryGrow => with_zero(cursor, Instr::MemoryGrow),
-        Opcode::I32Const => {
-            let value = signed_32(cursor)?;
-            Ok(Instr::I32Const(value))
-        }
-        Opcode::I64Const => {
-            let value = signed_64(cursor)?;
-            Ok(Instr::I64Const(value))
-        }
+        Opcode::I32Const => Ok(Instr::I32Const(signed_32(cursor)?)),
+        Opcode::I64Const => Ok(Instr::I64Const(signed_64(cursor)?)),
         Opcode::Numeric(of) => Ok(Instr::Numeric(of)),
         Opcode::F32Const => float_const(cursor, 4),
         Opcode::F64Const => float_const(cursor, 8),

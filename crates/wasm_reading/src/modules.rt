@@ -6,8 +6,8 @@ ghost use Rattle.wasm_ast.specs.declared.module.Module.{Module as SpelledModule}
 ghost use Rattle.wasm_reading.specs.ReadAnswers.{Gives, Answers};
 ghost use Rattle.wasm_reading.specs.ReadValues.{each_at, vec_at};
 ghost use Rattle.wasm_reading.specs.ReadTypes.{table_at, memory_at};
-ghost use Rattle.wasm_reading.specs.ReadModule.{all_held, start_held, preamble_at, sections_at, module_of, body_at, module_at};
-ghost use Rattle.wasm_reading.specs.Sections.{views};
+ghost use Rattle.wasm_reading.specs.ReadModule.{all_held, start_held, preamble_at, next_from, section_at, sections_at, module_of, body_at, module_at};
+ghost use Rattle.wasm_reading.specs.Sections.{view, views};
 
 use crate::fault::ReadFault;
 use crate::types::{memory, table};
@@ -121,7 +121,33 @@ fn skip(cursor: &mut Cursor<'_>, known: &[u8]) -> Result<(), ReadFault>
     Ok(())
 }
 
-/// All sections (5.5.2): custom ones, each with a name, and the others in the order of their numbers.
+/// The number from which on the section behind one may be: custom sections have a name, and the others
+/// come in the order of their numbers.
+fn next_from(next: u8, id: u8, content: &[u8]) -> Result<u8, ReadFault>
+    ensures { Answers (λ x. x) result (next_from next id content.now) }
+{
+    if id == 0 {
+        let mut custom = Cursor::new(content);
+        let _name = name(&mut custom)?;
+        return Ok(next);
+    }
+    if id < next || 11 < id {
+        return Err(ReadFault::Malformed);
+    }
+    Ok(id + 1)
+}
+
+/// A section (5.5.2), and the number from which on the next may be.
+fn section<'a>(cursor: &mut Cursor<'a>, least: u8) -> Result<(Part<'a>, u8), ReadFault>
+    ensures { Gives (λ x. (view x.0, x.1)) result cursor.new (section_at least cursor.old) }
+{
+    let id = next(cursor)?;
+    let content = bytes(cursor)?;
+    let behind = next_from(least, id, content)?;
+    Ok((Part { id, content }, behind))
+}
+
+/// All sections (5.5.2).
 fn sections<'a>(alloc: Global, body: &'a [u8]) -> Result<Vec<Part<'a>>, ReadFault>
     ensures { Answers (λ x. views x.items) result (sections_at (length body.now) 1 body.now) }
 {
@@ -129,18 +155,9 @@ fn sections<'a>(alloc: Global, body: &'a [u8]) -> Result<Vec<Part<'a>>, ReadFaul
     let mut parts = Vec::new(alloc);
     let mut least: u8 = 1;
     while !cursor.is_empty() {
-        let id = next(&mut cursor)?;
-        let content = bytes(&mut cursor)?;
-        if id == 0 {
-            let mut custom = Cursor::new(content);
-            let _name = name(&mut custom)?;
-        } else {
-            if id < least || 11 < id {
-                return Err(ReadFault::Malformed);
-            }
-            least = id + 1;
-        }
-        parts.push(Part { id, content })?;
+        let found = section(&mut cursor, least)?;
+        parts.push(found.0)?;
+        least = found.1;
     }
     Ok(parts)
 }
@@ -150,38 +167,29 @@ fn sections<'a>(alloc: Global, body: &'a [u8]) -> Result<Vec<Part<'a>>, ReadFaul
 fn module(alloc: Global, parts: &[Part<'_>]) -> Result<Module, ReadFault>
     ensures { Answers (λ x. x) result (module_of (views parts.now)) }
 {
-    let types = held(alloc, content(parts, 1))?;
-    let imports = held(alloc, content(parts, 2))?;
-    let functions = held(alloc, content(parts, 3))?;
-    let tables = held_tables(alloc, content(parts, 4))?;
-    let memories = held(alloc, content(parts, 5))?;
-    let globals = held(alloc, content(parts, 6))?;
-    let exports = held(alloc, content(parts, 7))?;
-    let start = held_start(content(parts, 8))?;
-    let elements = held(alloc, content(parts, 9))?;
-    let codes = held(alloc, content(parts, 10))?;
-    let segments = held(alloc, content(parts, 11))?;
-    if functions.len() != codes.len() {
-        return Err(ReadFault::Malformed);
+    let found = Module {
+        types: held(alloc, content(parts, 1))?,
+        imports: held(alloc, content(parts, 2))?,
+        functions: held(alloc, content(parts, 3))?,
+        tables: held_tables(alloc, content(parts, 4))?,
+        memories: held(alloc, content(parts, 5))?,
+        globals: held(alloc, content(parts, 6))?,
+        exports: held(alloc, content(parts, 7))?,
+        start: held_start(content(parts, 8))?,
+        elements: held(alloc, content(parts, 9))?,
+        codes: held(alloc, content(parts, 10))?,
+        segments: held(alloc, content(parts, 11))?,
+    };
+    if found.functions.len() == found.codes.len() {
+        Ok(found)
+    } else {
+        Err(ReadFault::Malformed)
     }
-    Ok(Module {
-        types,
-        imports,
-        functions,
-        tables,
-        memories,
-        globals,
-        exports,
-        start,
-        elements,
-        codes,
-        segments,
-    })
 }
 
 /// The module that all the bytes spell.
 #[tactic(auto, unfolding(crate::specs::ReadModule::module_at, crate::specs::ReadModule::body_at))]
-fn whole(alloc: Global, bytes: &[u8]) -> Result<Module, ReadFault>
+fn read_all(alloc: Global, bytes: &[u8]) -> Result<Module, ReadFault>
     ensures { Answers (λ x. x) result (module_at bytes.now) }
 {
     let mut cursor = Cursor::new(bytes);
@@ -196,5 +204,5 @@ pub fn read(alloc: Global, bytes: &[u8]) -> Result<Module, ReadFault>
     ensures found { IfOk result (λ m. SpellsModule bytes.now m) }
     ensures malformed { result ≡ Err ReadFault.Malformed → (m : SpelledModule) → SpellsModule bytes.now m → ⊥ }
 {
-    whole(alloc, bytes)
+    read_all(alloc, bytes)
 }

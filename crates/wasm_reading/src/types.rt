@@ -2,7 +2,7 @@
 ghost use Rattle.std.specs.Prelude.{◌≡◌, Option};
 ghost use Rattle.wasm_reading.specs.ReadAnswers.{Gives};
 ghost use Rattle.wasm_reading.specs.ReadValues.{u32_at};
-ghost use Rattle.wasm_reading.specs.ReadTypes.{valtype_of, valtype_at, blocktype_of, blocktype_at, functype_at, memory_at, unshared_at, table_at, flag_of, flag_at, globaltype_at};
+ghost use Rattle.wasm_reading.specs.ReadTypes.{valtype_of, valtype_at, blocktype_of, blocktype_at, functype_at, bounded_at, memory_at, unshared_at, table_at, flag_of, flag_at, globaltype_at};
 
 use crate::fault::ReadFault;
 use crate::values::{Read, next, number, vector};
@@ -35,11 +35,7 @@ fn valtype_of(byte: u8) -> Option<ValType>
 pub(crate) fn valtype(cursor: &mut Cursor<'_>) -> Result<ValType, ReadFault>
     ensures { Gives (λ x. x) result cursor.new (valtype_at cursor.old) }
 {
-    let byte = next(cursor)?;
-    match valtype_of(byte) {
-        Some(of) => Ok(of),
-        None => Err(ReadFault::Malformed),
-    }
+    valtype_of(next(cursor)?).ok_or(ReadFault::Malformed)
 }
 
 impl Read for ValType {
@@ -54,12 +50,9 @@ impl Read for ValType {
 fn blocktype_of(byte: u8) -> Option<Option<ValType>>
     ensures { result ≡ blocktype_of byte }
 {
-    if byte == 0x40 {
-        return Some(None);
-    }
-    match valtype_of(byte) {
-        Some(of) => Some(Some(of)),
-        None => None,
+    match byte {
+        0x40 => Some(None),
+        _ => Some(Some(valtype_of(byte)?)),
     }
 }
 
@@ -67,19 +60,14 @@ fn blocktype_of(byte: u8) -> Option<Option<ValType>>
 pub(crate) fn blocktype(cursor: &mut Cursor<'_>) -> Result<Option<ValType>, ReadFault>
     ensures { Gives (λ x. x) result cursor.new (blocktype_at cursor.old) }
 {
-    let byte = next(cursor)?;
-    match blocktype_of(byte) {
-        Some(of) => Ok(of),
-        None => Err(ReadFault::Malformed),
-    }
+    blocktype_of(next(cursor)?).ok_or(ReadFault::Malformed)
 }
 
 impl Read for FuncType {
     ghost read_at = { functype_at };
 
     fn read(alloc: Global, cursor: &mut Cursor<'_>) -> Result<FuncType, ReadFault> {
-        let byte = next(cursor)?;
-        if byte != 0x60 {
+        if next(cursor)? != 0x60 {
             return Err(ReadFault::Malformed);
         }
         let params = vector(alloc, cursor)?;
@@ -88,66 +76,37 @@ impl Read for FuncType {
     }
 }
 
-/// The limits of a memory (5.3.5).
-pub(crate) fn memory(cursor: &mut Cursor<'_>) -> Result<Limits, ReadFault>
-    ensures { Gives (λ x. x) result cursor.new (memory_at cursor.old) }
+/// A greatest size behind a least one.
+fn bounded(cursor: &mut Cursor<'_>, shared: bool) -> Result<Limits, ReadFault>
+    ensures { Gives (λ x. x) result cursor.new (bounded_at shared cursor.old) }
 {
-    let flag = next(cursor)?;
+    let min = number(cursor)?;
+    let max = Some(number(cursor)?);
+    Ok(Limits { min, max, shared })
+}
+
+/// Limits that aren't shared, behind their flag (5.3.4).
+fn unshared(cursor: &mut Cursor<'_>, flag: u8) -> Result<Limits, ReadFault>
+    ensures { Gives (λ x. x) result cursor.new (unshared_at flag cursor.old) }
+{
     match flag {
-        0x00 => {
-            let min = number(cursor)?;
-            Ok(Limits {
-                min,
-                max: None,
-                shared: false,
-            })
-        }
-        0x01 => {
-            let min = number(cursor)?;
-            let max = number(cursor)?;
-            Ok(Limits {
-                min,
-                max: Some(max),
-                shared: false,
-            })
-        }
-        0x03 => {
-            let min = number(cursor)?;
-            let max = number(cursor)?;
-            Ok(Limits {
-                min,
-                max: Some(max),
-                shared: true,
-            })
-        }
+        0x00 => Ok(Limits {
+            min: number(cursor)?,
+            max: None,
+            shared: false,
+        }),
+        0x01 => bounded(cursor, false),
         _ => Err(ReadFault::Malformed),
     }
 }
 
-/// The limits of a table (5.3.6), behind its element type.
-fn unshared(cursor: &mut Cursor<'_>) -> Result<Limits, ReadFault>
-    ensures { Gives (λ x. x) result cursor.new (unshared_at cursor.old) }
+/// The limits of a memory (5.3.5).
+pub(crate) fn memory(cursor: &mut Cursor<'_>) -> Result<Limits, ReadFault>
+    ensures { Gives (λ x. x) result cursor.new (memory_at cursor.old) }
 {
-    let flag = next(cursor)?;
-    match flag {
-        0x00 => {
-            let min = number(cursor)?;
-            Ok(Limits {
-                min,
-                max: None,
-                shared: false,
-            })
-        }
-        0x01 => {
-            let min = number(cursor)?;
-            let max = number(cursor)?;
-            Ok(Limits {
-                min,
-                max: Some(max),
-                shared: false,
-            })
-        }
-        _ => Err(ReadFault::Malformed),
+    match next(cursor)? {
+        0x03 => bounded(cursor, true),
+        flag => unshared(cursor, flag),
     }
 }
 
@@ -155,19 +114,18 @@ fn unshared(cursor: &mut Cursor<'_>) -> Result<Limits, ReadFault>
 pub(crate) fn table(cursor: &mut Cursor<'_>) -> Result<Limits, ReadFault>
     ensures { Gives (λ x. x) result cursor.new (table_at cursor.old) }
 {
-    let byte = next(cursor)?;
-    if byte != 0x70 {
+    if next(cursor)? != 0x70 {
         return Err(ReadFault::Malformed);
     }
-    unshared(cursor)
+    let flag = next(cursor)?;
+    unshared(cursor, flag)
 }
 
 /// Whether a global can be set (`mut`, 5.3.7).
 fn flag(cursor: &mut Cursor<'_>) -> Result<bool, ReadFault>
     ensures { Gives (λ x. x) result cursor.new (flag_at cursor.old) }
 {
-    let byte = next(cursor)?;
-    match byte {
+    match next(cursor)? {
         0x00 => Ok(false),
         0x01 => Ok(true),
         _ => Err(ReadFault::Malformed),
@@ -178,7 +136,5 @@ fn flag(cursor: &mut Cursor<'_>) -> Result<bool, ReadFault>
 pub(crate) fn globaltype(cursor: &mut Cursor<'_>) -> Result<(ValType, bool), ReadFault>
     ensures { Gives (λ x. x) result cursor.new (globaltype_at cursor.old) }
 {
-    let of = valtype(cursor)?;
-    let mutable = flag(cursor)?;
-    Ok((of, mutable))
+    Ok((valtype(cursor)?, flag(cursor)?))
 }

@@ -129,19 +129,19 @@ module _ (m : Module) (typed : is_typed m ≡ true) where
     by (inr at) = let its = own_typed m.functions m.codes (x - length (functions_of m.imports)) o functions_defined at in (its.0, its.1)
 
   -- so has each function that a segment puts into the table
-  put_later : (s : Element) (later : Option ℕ) (i x : ℕ) → is_element own s ≡ true → (later ≡ Some x → x < length own.functions) → table.or_else later (table.put_at s i) ≡ Some x → x < length own.functions
+  put_later : (s : Element) (later : Option ℕ) (i x : ℕ) → is_element own s ≡ true → (later ≡ Some x → x < length own.functions) → table.or_else later (table.put_at m s i) ≡ Some x → x < length own.functions
   put_later s None i x its behind e =
-      let here = if_true (nat_le (constant_value s.offset) i) (slice_get s.functions (i - constant_value s.offset)) x e in
-      ltb-true x (length own.functions) (listed (λ y. nat_lt y (length own.functions)) s.functions (i - constant_value s.offset) x (and_parts _ _ its).1 here)
+      let here = if_true (nat_le (table.offset_value m s.offset) i) (slice_get s.functions (i - table.offset_value m s.offset)) x e in
+      ltb-true x (length own.functions) (listed (λ y. nat_lt y (length own.functions)) s.functions (i - table.offset_value m s.offset) x (and_parts _ _ its).1 here)
   put_later s (Some y) i x its behind e = behind e
 
-  put_within : (es : List Element) (i x : ℕ) → list_all (is_element own) es ≡ true → table.last_put es i ≡ Some x → x < length own.functions
+  put_within : (es : List Element) (i x : ℕ) → list_all (is_element own) es ≡ true → table.last_put m es i ≡ Some x → x < length own.functions
   put_within [] i x all e = absurd (cc)
   put_within (s ∷ es) i x all e =
       let parts = and_parts (is_element own s) (list_all (is_element own) es) all in
-      put_later s (table.last_put es i) i x parts.0 (put_within es i x parts.1) e
+      put_later s (table.last_put m es i) i x parts.0 (put_within es i x parts.1) e
 
-  pub placed_typed : (i x : ℕ) → table.last_put m.elements i ≡ Some x → (f : FuncType) × (table.function_type m x ≡ Some f)
+  pub placed_typed : (i x : ℕ) → table.last_put m m.elements i ≡ Some x → (f : FuncType) × (table.function_type m x ≡ Some f)
   placed_typed i x e =
       let index = got_within own.functions x (put_within m.elements i x elements_defined e) in
       let f = all_typed x index.0 index.1 in

@@ -220,11 +220,11 @@ module _ (m : Module) (r : Running m) (memory : LinearMemory) (is : IsMemory mem
   pub call_indirect_kept : (typed_module : is_typed m ≡ true) (t : ℕ) (f : FuncType) (rest : Sequence) (operands : List ℕ) → slice_get m.types t ≡ Some f → Takes m r rest (f.params ++ I32 ∷ []) f.results operands
       → ((count : ℕ) (value : Option ℕ) → count ≡ length f.params → HaveTypes f.results (option_to_list value) → IsAnsweredBy m (as_thread m r) count value) → Keeps m (as_thread m r) (step_call_indirect m memory (as_thread m r) r.frame t rest operands)
   call_indirect_kept typed_module t f rest [] type taken stops = absurd (number_first f.params taken.others [] taken.values)
-  call_indirect_kept typed_module t f rest (i ∷ left) type taken stops = by (table.last_put m.elements i) refl where
+  call_indirect_kept typed_module t f rest (i ∷ left) type taken stops = by (table.last_put m m.elements i) refl where
     under : Takes m r rest f.params f.results left
     under = record { others = taken.others; values = (number_first f.params taken.others (i ∷ left) taken.values).1; behind = taken.behind }
 
-    by : (put : Option ℕ) → table.last_put m.elements i ≡ put → Keeps m (as_thread m r) (step_call_indirect m memory (as_thread m r) r.frame t rest (i ∷ left))
+    by : (put : Option ℕ) → table.last_put m m.elements i ≡ put → Keeps m (as_thread m r) (step_call_indirect m memory (as_thread m r) r.frame t rest (i ∷ left))
     by None e = rw e (kept_either m (as_thread m r) (ltb i (table.table_size m)) _ (Trapped UndefinedElement) (λ inside. tt) (λ past. tt))
     by (Some x) e =
         let found = placed_typed m typed_module i x e in

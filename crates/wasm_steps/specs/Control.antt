@@ -97,7 +97,7 @@ step_call m memory thread f x rest operands = of_type (function_type m x) where
 abbrev pub step_call_indirect : Module → LinearMemory → GuestThread → Frame → ℕ → Sequence → List ℕ → Stepped
 step_call_indirect m memory thread f t rest [] = Stuck
 step_call_indirect m memory thread f t rest (i ∷ operands) =
-    if nat_lt i (table_size m) then at_place (last_put m.elements i) else Trapped UndefinedElement
+    if nat_lt i (table_size m) then at_place (last_put m m.elements i) else Trapped UndefinedElement
   where
     of_types : ℕ → Option FuncType → Option FuncType → Stepped
     of_types x None found = Stuck

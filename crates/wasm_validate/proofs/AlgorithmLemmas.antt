@@ -1,5 +1,5 @@
 -- Behind the events of a sequence the operands are those that its typing leaves.
-use Rattle.std.proofs.Common.{◌≡◌, Bool, true, false, ◌&&◌, cond, List, [], ◌∷◌, ◌++◌, Option, Some, None, option_and_then, option_map, option_to_list, refl, sym, ap, ◌∙◌}
+use Rattle.std.proofs.Common.{◌≡◌, Bool, true, false, ◌&&◌, cond, List, [], ◌∷◌, ◌++◌, Option, Some, None, option_and_then, option_map, option_to_list, refl, sym, ap, ◌∙◌, arith}
 use Rattle.wasm_ast.specs.declared.types.ValType.{ValType}
 use Rattle.wasm_ast.specs.declared.types.ValType.TheVariants.{I32}
 use Rattle.wasm_ast.specs.declared.instr.BlockKind.{BlockKind}
@@ -57,8 +57,7 @@ module _ (c : Context) where
       ∙ over_if rest g v (push_operands (option_to_list of) s) (leaves of o)
 
   both : {A : Type 0} (a b : Bool) (x : Option A) → cond a (cond b x None) None ≡ cond (a && b) x None
-  both true b x = refl
-  both false b x = refl
+  both a b x = grind arith
 
   second_typed : (second rest : Sequence) → IsTyped second → IsTyped rest → (of : Option ValType) (v : OpenBlocks) (s : Operands) (a : Bool) →
       behind c (events second ++ (End ∷ events rest)) (cond a (Some (opened kind.Block of (with_operands v s))) None)

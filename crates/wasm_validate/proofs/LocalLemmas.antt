@@ -1,10 +1,9 @@
 -- The type of a local is that of a parameter, or of one behind the parameters.
-use Rattle.std.proofs.Common.{◌≡◌, ℕ, zero, suc, ◌+◌, ◌-◌, ◌<◌, ◌≤◌, List, [], ◌∷◌, length, get_or, Some, None, cond, refl, subst, sym, ap, ◌∙◌, arith}
+use Rattle.std.proofs.Common.{◌≡◌, ℕ, zero, suc, ◌+◌, ◌-◌, ◌<◌, ◌≤◌, List, [], ◌∷◌, length, get_or, Some, None, refl, sym, ap, ◌∙◌, arith}
 use Rattle.wasm_ast.specs.declared.types.ValType.{ValType}
 use Rattle.wasm_ast.specs.declared.locals.LocalGroup.{LocalGroup}
 use Rattle.wasm_ast.specs.Typing.{group_type, local_type}
 use Rattle.wasm_validate.specs.Ends.{ends_from}
-use Rattle.std.proofs.lemmas.Bool.{lt-ltb, le-ltb}
 
 pub local_param : (ts : List ValType) (gs : List LocalGroup) (n : ℕ) (d : ValType) → n < length ts → local_type ts gs n ≡ Some (get_or ts n d)
 local_param [] gs n d h = absurd (omega arith)
@@ -20,7 +19,7 @@ local_group (t ∷ ts) gs (suc n) m e =
 
 pub length-ends_from : (start : ℕ) (gs : List LocalGroup) → length (ends_from start gs) ≡ length gs
 length-ends_from start [] = refl
-length-ends_from start (g ∷ gs) = ap (λ n. suc n) (length-ends_from (start + g.count) gs)
+length-ends_from start (g ∷ gs) = omega (arith, length-ends_from (start + g.count) gs)
 
 -- each end is at or behind the start
 end_behind : (start : ℕ) (gs : List LocalGroup) (j : ℕ) → j < length gs → start ≤ get_or (ends_from start gs) j 0
@@ -40,12 +39,11 @@ ends_rise start (g ∷ gs) (suc i) (suc j) h k = ends_rise (start + g.count) gs 
 pub group_at : (start : ℕ) (gs : List LocalGroup) (n k : ℕ) (d : LocalGroup) → ((j : ℕ) → j < k → get_or (ends_from start gs) j 0 ≤ start + n) → k < length gs →
     start + n < get_or (ends_from start gs) k 0 → group_type gs n ≡ Some (get_or gs k d).of
 group_at start [] n k d below h above = absurd (omega arith)
-group_at start (g ∷ gs) n zero d below h above = ap (λ b. cond b (Some g.of) (group_type gs (n - g.count))) (lt-ltb n g.count (omega arith))
+group_at start (g ∷ gs) n zero d below h above = grind arith
 group_at start (g ∷ gs) n (suc k) d below h above =
     let first : start + g.count ≤ start + n = below 0 (omega arith) in
     let same : start + g.count + (n - g.count) ≡ start + n = omega arith in
-    ap (λ b. cond b (Some g.of) (group_type gs (n - g.count))) (le-ltb n g.count (omega arith))
-    ∙ group_at (start + g.count) gs (n - g.count) k d (λ j p. omega (arith, same, below (suc j) (omega arith))) (omega arith) (omega (arith, same))
+    let r = group_at (start + g.count) gs (n - g.count) k d (λ j p. omega (arith, same, below (suc j) (omega arith))) (omega arith) (omega (arith, same)) in grind arith
 
 -- behind all groups there is none
 pub group_past : (start : ℕ) (gs : List LocalGroup) (n : ℕ) → ((j : ℕ) → j < length gs → get_or (ends_from start gs) j 0 ≤ start + n) → group_type gs n ≡ None
@@ -53,8 +51,7 @@ group_past start [] n below = refl
 group_past start (g ∷ gs) n below =
     let first : start + g.count ≤ start + n = below 0 (omega arith) in
     let same : start + g.count + (n - g.count) ≡ start + n = omega arith in
-    ap (λ b. cond b (Some g.of) (group_type gs (n - g.count))) (le-ltb n g.count (omega arith))
-    ∙ group_past (start + g.count) gs (n - g.count) (λ j p. omega (arith, same, below (suc j) (omega arith)))
+    let r = group_past (start + g.count) gs (n - g.count) (λ j p. omega (arith, same, below (suc j) (omega arith))) in grind arith
 
 -- the same over the ends that are kept
 module _ (gs : List LocalGroup) (ends : List ℕ) (e : ends ≡ ends_from 0 gs) where
@@ -62,21 +59,16 @@ module _ (gs : List LocalGroup) (ends : List ℕ) (e : ends ≡ ends_from 0 gs) 
   as_many = ap length e ∙ length-ends_from 0 gs
 
   pub rise : (i j : ℕ) → i ≤ j → j < length ends → get_or ends i 0 ≤ get_or ends j 0
-  rise i j h k =
-      let family : List ℕ → Type 0 = λ es. get_or es i 0 ≤ get_or es j 0 in
-      subst family (sym e) (ends_rise 0 gs i j h (omega (arith, as_many)))
+  rise i j h k = rw e (ends_rise 0 gs i j h (omega (arith, as_many)))
 
   at_ends : (n j : ℕ) → get_or ends j 0 ≤ n → get_or (ends_from 0 gs) j 0 ≤ 0 + n
-  at_ends n j h =
-      let family : List ℕ → Type 0 = λ es. get_or es j 0 ≤ 0 + n in
-      subst family e (omega arith)
+  at_ends n j h = rw (← e) (omega arith)
 
   pub found : (n low high : ℕ) (d : LocalGroup) → low < length gs → high ≤ low → ((k : ℕ) → k < low → get_or ends k 0 ≤ n) → ((k : ℕ) → high ≤ k → k < length ends → n < get_or ends k 0) →
       Some (get_or gs low d).of ≡ group_type gs n
   found n low high d h q below above =
-      let family : List ℕ → Type 0 = λ es. 0 + n < get_or es low 0 in
       let past : n < get_or ends low 0 = above low q (omega (arith, as_many)) in
-      sym (group_at 0 gs n low d (λ j p. at_ends n j (below j p)) h (subst family e (omega arith)))
+      sym (group_at 0 gs n low d (λ j p. at_ends n j (below j p)) h (rw (← e) (omega arith)))
 
   pub absent : (n low : ℕ) → length gs ≤ low → ((k : ℕ) → k < low → get_or ends k 0 ≤ n) → None ≡ group_type gs n
   absent n low h below = sym (group_past 0 gs n (λ j p. at_ends n j (below j (omega arith))))

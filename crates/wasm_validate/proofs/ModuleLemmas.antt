@@ -1,5 +1,5 @@
 -- Lists of a module's parts.
-use Rattle.std.proofs.Common.{◌≡◌, ℕ, zero, suc, ◌+◌, ◌-◌, ◌<◌, ◌≤◌, Bool, true, false, not, ◌&&◌, ◌||◌, List, [], ◌∷◌, length, drop, get_or, slice_get, Option, Some, is_some, cond, refl, sym, ap, ◌∙◌, arith}
+use Rattle.std.proofs.Common.{◌≡◌, ℕ, zero, suc, ◌+◌, ◌-◌, ◌<◌, ◌≤◌, Bool, true, false, not, ◌&&◌, ◌||◌, List, [], ◌∷◌, length, drop, get_or, Option, Some, is_some, cond, refl, sym, ap, ◌∙◌, arith}
 use Rattle.std.specs.List.{list_all, list_any}
 use Rattle.std.specs.Str.{bytes_eq}
 use Rattle.std.proofs.lemmas.List.{drop_more}
@@ -12,7 +12,7 @@ use Rattle.wasm_ast.specs.declared.module.Code.{Code}
 use Rattle.wasm_ast.specs.Sequence.{Sequence}
 use Rattle.wasm_ast.specs.Numbering.{in_front, sequence}
 use Rattle.wasm_ast.specs.Typing.{Context}
-use Rattle.wasm_ast.specs.TypingModule.{is_constant_instruction, are_constant, are_different, are_functions, is_function_of}
+use Rattle.wasm_ast.specs.TypingModule.{is_constant_instruction, are_constant, are_different, are_functions}
 
 constant_front : (globals : List (ValType × Bool)) (F : ℕ → Sequence) (i : Instr) (rest : Sequence) → are_constant globals (in_front F i rest) ≡ (is_constant_instruction globals i && are_constant globals rest)
 constant_front globals F (instr.Block of body) rest = refl
@@ -30,9 +30,7 @@ are_constant-sequence globals F (i ∷ is) = constant_front globals F i (sequenc
 pub different_drop : (es : List Export) (n : ℕ) → are_different (drop n es) ≡ false → are_different es ≡ false
 different_drop es zero h = h
 different_drop [] (suc n) h = h
-different_drop (e ∷ es) (suc n) h =
-    ap (λ x. not (list_any (λ (d : Export). bytes_eq d.name e.name) es) && x) (different_drop es n h)
-    ∙ (elim (not (list_any (λ (d : Export). bytes_eq d.name e.name) es)) as (λ x. (x && false) ≡ false) [ true ↦ refl | false ↦ refl ])
+different_drop (e ∷ es) (suc n) h = let r = different_drop es n h in grind arith
 
 -- functions and codes are as many
 pub not_paired : (c : Context) (ofs : List ℕ) (codes : List Code) → (length ofs ≡ length codes → ⊥) → are_functions c ofs codes ≡ false
@@ -40,8 +38,7 @@ not_paired c [] [] h = absurd (h refl)
 not_paired c [] (code ∷ codes) h = refl
 not_paired c (of ∷ ofs) [] h = refl
 not_paired c (of ∷ ofs) (code ∷ codes) h =
-    ap (λ x. is_function_of c code (slice_get c.types of) && x) (not_paired c ofs codes (λ e. h (ap (λ n. suc n) e)))
-    ∙ (elim (is_function_of c code (slice_get c.types of)) as (λ x. (x && false) ≡ false) [ true ↦ refl | false ↦ refl ])
+    let r = not_paired c ofs codes (λ e. h (ap (λ n. suc n) e)) in grind arith
 
 drop_down : (es : List Export) (n : ℕ) (e : Export) → 0 < n → n ≤ length es → e ≡ get_or es (n - 1) e → drop (n - 1) es ≡ e ∷ drop n es
 drop_down es n e p h q =

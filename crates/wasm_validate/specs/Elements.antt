@@ -6,8 +6,8 @@ use Rattle.wasm_ast.specs.Table.{last_put, or_else}
 use Rattle.wasm_ast.specs.TypingModule.{functions_of, is_typed}
 
 -- at each of them, the function that these segments put there, if any
-abbrev pub AreFirst : List (Option ℕ) → List Element → Type 0
-AreFirst places elements = (i : ℕ) → i < length places → get_or places i None ≡ last_put elements i
+abbrev pub AreFirst : Module → List (Option ℕ) → List Element → Type 0
+AreFirst m places elements = (i : ℕ) → i < length places → get_or places i None ≡ last_put m elements i
 
 -- functions were put at the places from one on
 abbrev pub from_place : ℕ → List ℕ → ℕ → Option ℕ
@@ -22,4 +22,4 @@ IsPutFrom old first functions new =
 pub record IsValid (m : Module) (functions : List ℕ) (places : List (Option ℕ)) : Type 0 where
   pub typed : IsTrue (is_typed m)
   pub types : functions ≡ functions_of m.imports ++ m.functions
-  pub first : AreFirst places m.elements
+  pub first : AreFirst m places m.elements

@@ -76,10 +76,7 @@ fn end(blocks: &mut Blocks) -> Result<bool, AllocError>
     ensures { IfOk result (λ fits. fitting fits blocks.new ≡ at_end blocks.old) }
 {
     let of = blocks.leaves();
-    if !is_left(blocks, of) {
-        return Ok(false);
-    }
-    if !blocks.close() {
+    if !is_left(blocks, of) || !blocks.close() {
         return Ok(false);
     }
     blocks.push_value(of)?;

@@ -49,6 +49,19 @@ pub fn memories(imports: &[Import]) -> usize
     count
 }
 
+/// How many globals are imported.
+pub fn global_count(imports: &[Import]) -> usize
+    ensures { result ≡ length (globals_of imports.now) }
+{
+    let mut count = 0;
+    for import in imports {
+        if let ImportKind::Global { .. } = import.kind {
+            count += 1;
+        }
+    }
+    count
+}
+
 /// The type of each imported global, and whether it can be set.
 pub fn globals(alloc: Global, imports: &[Import]) -> Result<Vec<(ValType, bool)>, AllocError>
     ensures { IfOk result (λ all. all.items ≡ globals_of imports.now) }

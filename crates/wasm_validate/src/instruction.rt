@@ -1,7 +1,8 @@
 // What one instruction leaves of the operands: WebAssembly Core 1.0, section 3.3.
-ghost use Rattle.std.specs.Prelude.{◌≡◌, ◌∷◌, [], IfOk};
+ghost use Rattle.std.specs.Prelude.{◌≡◌, ◌∷◌, [], IfOk, None, nat_lt, if◌then◌else◌};
 ghost use Rattle.wasm_ast.specs.declared.instr.Instr.TheVariants as instr;
-ghost use Rattle.wasm_ast.specs.Typing.{after};
+ghost use Rattle.wasm_ast.specs.declared.types.ValType.TheVariants.{I32};
+ghost use Rattle.wasm_ast.specs.Typing.{after, applied};
 ghost use Rattle.wasm_validate.specs.Blocks.{ended, labels_of};
 ghost use Rattle.wasm_validate.specs.Context.{context};
 
@@ -34,8 +35,8 @@ impl Context<'_> {
             Instr::Select => select(blocks),
             Instr::Variable(op, index) => self.after_variable(blocks, *op, *index),
             Instr::Access(op, arg) => self.access(blocks, *op, *arg),
-            Instr::MemorySize => self.memory_size(blocks),
-            Instr::MemoryGrow => self.memory_grow(blocks),
+            Instr::MemorySize => self.pages(blocks, &[]),
+            Instr::MemoryGrow => self.pages(blocks, &[ValType::I32]),
             Instr::I32Const(_) => {
                 blocks.push(Some(ValType::I32))?;
                 Ok(true)
@@ -126,28 +127,15 @@ impl Context<'_> {
         blocks.apply(op.operands(), op.results())
     }
 
-    /// `memory.size`
-    fn memory_size(&self, blocks: &mut Blocks) -> Result<bool, AllocError>
-        ensures operands { IfOk result (λ fits. ended fits blocks.new.operands ≡ after (context self.now) (labels_of blocks.old.enclosing) instr.MemorySize blocks.old.operands) }
+    /// `memory.size` and `memory.grow`, which takes a number of pages.
+    fn pages(&self, blocks: &mut Blocks, params: &[ValType]) -> Result<bool, AllocError>
+        ensures operands { IfOk result (λ fits. ended fits blocks.new.operands ≡ (if nat_lt 0 (context self.now).memories then applied params.now (I32 ∷ []) blocks.old.operands else None)) }
         ensures enclosing { blocks.new.enclosing ≡ blocks.old.enclosing }
     {
         if self.memories == 0 {
             return Ok(false);
         }
-        blocks.push(Some(ValType::I32))?;
-        Ok(true)
-    }
-
-    /// `memory.grow`
-    fn memory_grow(&self, blocks: &mut Blocks) -> Result<bool, AllocError>
-        ensures operands { IfOk result (λ fits. ended fits blocks.new.operands ≡ after (context self.now) (labels_of blocks.old.enclosing) instr.MemoryGrow blocks.old.operands) }
-        ensures enclosing { blocks.new.enclosing ≡ blocks.old.enclosing }
-    {
-        if self.memories == 0 || !blocks.expect(ValType::I32) {
-            return Ok(false);
-        }
-        blocks.push(Some(ValType::I32))?;
-        Ok(true)
+        blocks.apply(params, &[ValType::I32])
     }
 
     /// A numeric instruction other than a constant.

@@ -11,4 +11,5 @@ mod module;
 mod rules;
 mod valid;
 
+pub use elements::offset_value;
 pub use valid::{Valid, ValidateFault, validate};

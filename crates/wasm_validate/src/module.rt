@@ -44,10 +44,7 @@ impl Context<'_> {
         requires imported { imported.now ≡ globals_of checked.now.imports }
         ensures { IfOk result (λ typed. typed ≡ is_typed checked.now) }
     {
-        if !self.is_declared(checked) {
-            return Ok(false);
-        }
-        self.is_defined(alloc, imported, checked)
+        Ok(self.is_declared(checked) && self.is_defined(alloc, imported, checked)?)
     }
 
     /// Whether what the module declares without instructions is right.
@@ -73,22 +70,13 @@ impl Context<'_> {
     ) -> Result<bool, AllocError>
         ensures { IfOk result (λ defined. defined ≡ is_defined (context self.now) imported.now checked.now) }
     {
-        if !are_different(alloc, checked.exports.as_slice())? {
-            return Ok(false);
-        }
-        if !self.are_globals(alloc, imported, checked.globals.as_slice())? {
-            return Ok(false);
-        }
-        if !self.are_elements(alloc, checked.elements.as_slice())? {
-            return Ok(false);
-        }
-        if !self.are_segments(alloc, checked.segments.as_slice())? {
-            return Ok(false);
-        }
-        self.are_functions(
-            alloc,
-            checked.functions.as_slice(),
-            checked.codes.as_slice(),
+        let codes = checked.codes.as_slice();
+        Ok(
+            are_different(alloc, checked.exports.as_slice())?
+                && self.are_globals(alloc, imported, checked.globals.as_slice())?
+                && self.are_elements(alloc, checked.elements.as_slice())?
+                && self.are_segments(alloc, checked.segments.as_slice())?
+                && self.are_functions(alloc, checked.functions.as_slice(), codes)?,
         )
     }
 
@@ -113,25 +101,20 @@ impl Context<'_> {
     fn are_indices(&self, functions: &[u32]) -> bool
         ensures { result ≡ list_all (λ x. nat_lt x (length self.now.functions.now)) functions.now }
     {
-        for function in functions {
-            if *function as usize >= self.functions.len() {
-                return false;
-            }
-        }
-        true
+        functions
+            .iter()
+            .all(|function| (*function as usize) < self.functions.len())
     }
 
     /// Whether a table may have such a segment (3.4.5).
     fn is_element(&self, alloc: Global, element: &Element) -> Result<bool, AllocError>
         ensures { IfOk result (λ fits. fits ≡ is_element (context self.now) element.now) }
     {
-        if element.table as usize >= self.tables {
-            return Ok(false);
-        }
-        if !self.is_constant(alloc, self.globals, ValType::I32, &element.offset)? {
-            return Ok(false);
-        }
-        Ok(self.are_indices(element.functions.as_slice()))
+        Ok(
+            (element.table as usize) < self.tables
+                && self.is_constant(alloc, self.globals, ValType::I32, &element.offset)?
+                && self.are_indices(element.functions.as_slice()),
+        )
     }
 
     /// Whether tables may have such segments.
@@ -150,10 +133,10 @@ impl Context<'_> {
     fn is_segment(&self, alloc: Global, segment: &Segment) -> Result<bool, AllocError>
         ensures { IfOk result (λ fits. fits ≡ is_segment (context self.now) segment.now) }
     {
-        if segment.memory as usize >= self.memories {
-            return Ok(false);
-        }
-        self.is_constant(alloc, self.globals, ValType::I32, &segment.offset)
+        Ok(
+            (segment.memory as usize) < self.memories
+                && self.is_constant(alloc, self.globals, ValType::I32, &segment.offset)?,
+        )
     }
 
     /// Whether memories may have such segments.

@@ -18,12 +18,7 @@ use wasm_ast::{
 pub fn are_function_types(types: &[FuncType]) -> bool
     ensures { result ≡ list_all is_function_type types.now }
 {
-    for of in types {
-        if of.results.len() > 1 {
-            return false;
-        }
-    }
-    true
+    types.iter().all(|of| of.results.len() <= 1)
 }
 
 /// Whether limits are in order and within a bound (3.2.1).
@@ -54,24 +49,14 @@ fn is_memory(limits: Limits) -> bool
 pub fn are_tables(tables: &[Limits]) -> bool
     ensures { result ≡ list_all is_table tables.now }
 {
-    for limits in tables {
-        if !is_table(*limits) {
-            return false;
-        }
-    }
-    true
+    tables.iter().all(|limits| is_table(*limits))
 }
 
 /// Whether all limits are those of memories.
 pub fn are_memories(memories: &[Limits]) -> bool
     ensures { result ≡ list_all is_memory memories.now }
 {
-    for limits in memories {
-        if !is_memory(*limits) {
-            return false;
-        }
-    }
-    true
+    memories.iter().all(|limits| is_memory(*limits))
 }
 
 /// Whether a module may have such an import (3.4.9).
@@ -90,12 +75,8 @@ fn is_import(checked: &Module, kind: ImportKind) -> bool
 pub fn are_imports(checked: &Module) -> bool
     ensures { result ≡ list_all (λ (i : Import). is_import checked.now i.kind) checked.now.imports }
 {
-    for import in checked.imports.as_slice() {
-        if !is_import(checked, import.kind) {
-            return false;
-        }
-    }
-    true
+    let imports = checked.imports.as_slice();
+    imports.iter().all(|import| is_import(checked, import.kind))
 }
 
 impl Context<'_> {
@@ -142,12 +123,7 @@ impl Context<'_> {
     pub fn are_exports(&self, exports: &[Export]) -> bool
         ensures { result ≡ list_all (λ (e : Export). is_export (context self.now) e.kind) exports.now }
     {
-        for export in exports {
-            if !self.is_export(export.kind) {
-                return false;
-            }
-        }
-        true
+        exports.iter().all(|export| self.is_export(export.kind))
     }
 
     /// Whether the function that is run at the start takes and gives nothing (3.4.7).
@@ -182,12 +158,8 @@ fn is_constant_instruction(globals: &[(ValType, bool)], instr: &Instr) -> bool
 fn are_constant_instructions(globals: &[(ValType, bool)], list: &[Instr]) -> bool
     ensures { result ≡ list_all (is_constant_instruction globals.now) list.now }
 {
-    for instr in list {
-        if !is_constant_instruction(globals, instr) {
-            return false;
-        }
-    }
-    true
+    list.iter()
+        .all(|instr| is_constant_instruction(globals, instr))
 }
 
 /// Whether all instructions of an expression are constant (3.3.7).

@@ -86,11 +86,11 @@ impl Valid {
     /// gone through.
     #[inline(always)]
     pub fn element(&self, place: u32) -> Option<u32>
-        ensures { result ≡ last_put self.now.elements place }
+        ensures { result ≡ last_put self.now self.now.elements place }
     {
         match self.places.as_slice().get(place as usize) {
             Some(function) => *function,
-            None => last_put(self.module.elements.as_slice(), place),
+            None => last_put(&self.module, place),
         }
     }
 }

@@ -11,7 +11,10 @@ ghost use Rattle.wasm_ast.specs.Position.{remaining};
 ghost use Rattle.wasm_ast.specs.Sequence.{Empty};
 ghost use Rattle.guest_state.specs.Steps.{branched, called, closed, has_room, left, opened, returned, with_local, with_operands};
 
-use super::{OpenFrame, OpenLabel, Thread, further_locals, params, push_all, returns};
+use super::{
+    MOST_FRAMES, MOST_VALUES, OpenFrame, OpenLabel, Thread, further_locals, params, push_all,
+    returns,
+};
 use int_ops::Cause;
 use wasm_ast::{Module, Position};
 
@@ -263,12 +266,16 @@ impl Thread {
         self.labels.len()
     }
 
-    /// Whether a call of the module's own function of that number would find room.
-    pub fn call_fits(&self, module: &Module, function: u32) -> bool
-        requires { 0 < length self.now.frames }
-        ensures { (place : Position) → result ≡ has_room (thread_at «module».now place self.now) (further_locals «module».now function) }
+    /// Whether a call of the module's own function of that number would find room, once so many operands that stand over
+    /// its arguments are gone.
+    pub fn call_fits(&self, module: &Module, function: u32, over: usize) -> bool
+        requires some { 0 < length self.now.frames }
+        requires over { over ≤ length (operands_of self.now) }
+        ensures { (place : Position) → result ≡ has_room (in_frame (with_operands over []) (thread_at «module».now place self.now)) (further_locals «module».now function) }
     {
-        self.has_room(further_locals(module, function))
+        let zeros = further_locals(module, function);
+        let values = self.values.len() - over;
+        self.frames.len() < MOST_FRAMES && zeros <= MOST_VALUES - values
     }
 
     /// The local of that index, of the innermost function.

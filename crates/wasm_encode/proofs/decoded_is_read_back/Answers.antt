@@ -1,9 +1,9 @@
-use Rattle.std.proofs.Common.{ℕ, ◌<◌, ◌^◌, List, arith}
+use Rattle.std.proofs.Common.{ℕ, ◌<◌, ◌^◌, List, Ok, arith}
 use Rattle.std.specs.List.{All}
 use Rattle.wasm_ast.specs.Canon.{canon}
 use Rattle.wasm_ast.specs.declared.module.Module.{Module}
 use Rattle.wasm_decode.specs.Decodes.{SpellsModest}
-use Rattle.wasm_decode.proofs.DecodeRows.{module_comes}
+use Rattle.wasm_decode.proofs.DecodeRows.{agree}
 use Rattle.wasm_encode.proofs.ShortestModule.{module_written}
 use Rattle.wasm_encode.proofs.decoded_is_read_back.Goals as goal
 
@@ -15,4 +15,4 @@ pub returns-clause-spelled : goal.returns-clause-spelled
 returns-clause-spelled c = modest
 
 pub returns-clause-answer : goal.returns-clause-answer
-returns-clause-answer c = λ bytes m result a h d. module_comes (canon m) (c.bytes_spell_one_module.ensures (canon m)) result d m (modest bytes m a h)
+returns-clause-answer c = λ bytes m result a h d. agree (canon m) (c.bytes_spell_one_module.ensures (canon m)) result (Ok m) (λ e. cc) d (modest bytes m a h)

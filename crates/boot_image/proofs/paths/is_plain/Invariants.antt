@@ -1,4 +1,4 @@
-use Rattle.std.proofs.Common.{◌≡◌, ◌≤◌, length, drop}
+use Rattle.std.proofs.Common.{◌≡◌, drop}
 use Rattle.boot_image.proofs.PlainPaths.{is_just}
 use Rattle.boot_image.proofs.paths.is_plain.Given as goal
 

@@ -1,4 +1,4 @@
-use Rattle.std.proofs.Common.{◌≡◌, cond, Some, None, sym, ap, ◌∙◌}
+use Rattle.std.proofs.Common.{cond, Some, None, sym, ap, ◌∙◌}
 use Rattle.boot_image.specs.Image.{if_plain, plain_parts}
 use Rattle.boot_image.proofs.paths.plain_parts.Goals as goal
 

@@ -1,4 +1,4 @@
-use Rattle.std.proofs.Common.{◌≡◌, ◌++◌, List, ℕ, sym, ap, ◌∙◌}
+use Rattle.std.proofs.Common.{◌++◌, List, ℕ, sym, ap, ◌∙◌}
 use Rattle.boot_image.proofs.PlainPaths.{begins, begins_not}
 use Rattle.boot_image.proofs.paths.without.Goals as goal
 

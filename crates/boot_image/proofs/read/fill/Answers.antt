@@ -1,4 +1,4 @@
-use Rattle.std.proofs.Common.{◌≡◌, List, ℕ, [], length, eqb, sym, ap, ◌∙◌}
+use Rattle.std.proofs.Common.{List, ℕ, length, sym, ap, ◌∙◌}
 use Rattle.std.proofs.lemmas.Bool.{eqb-true, eqb-false}
 use Rattle.std.proofs.lemmas.List.{nil_from_length}
 use Rattle.boot_image.proofs.Remaining.{fault_means, last_means, more_means}

@@ -1,4 +1,4 @@
-use Rattle.std.proofs.Common.{◌≡◌, length}
+use Rattle.std.proofs.Common.{length}
 use Rattle.file_tree.specs.FileTree.{FileTree}
 use Rattle.boot_image.specs.Image.{Remains}
 use Rattle.boot_image.specs.Steps.{IsBytes}

@@ -1,4 +1,3 @@
-use Rattle.std.proofs.Common.{sym, ap, ◌∙◌}
 use Rattle.boot_image.specs.Entries.{entries_bytes}
 use Rattle.boot_image.proofs.Remaining.{image_means}
 use Rattle.boot_image.proofs.read.read_image.Goals as goal

@@ -1,4 +1,4 @@
-use Rattle.std.proofs.Common.{◌≡◌, ◌-◌, List, ℕ, sym, ap, ◌∙◌, subst, arith}
+use Rattle.std.proofs.Common.{◌-◌, List, ℕ, sym, ap, ◌∙◌, arith}
 use Rattle.boot_image.proofs.Finding.{none_at_zero, nothing_in, all_found, one_found, here}
 use Rattle.std.specs.List.{flat_map}
 use Rattle.boot_image.specs.Written.{with_paths, path_in, below}

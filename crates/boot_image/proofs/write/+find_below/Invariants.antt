@@ -1,4 +1,4 @@
-use Rattle.std.proofs.Common.{◌≡◌, ◌-◌, ◌<◌, drop}
+use Rattle.std.proofs.Common.{◌≡◌, ◌-◌, drop}
 use Rattle.std.specs.List.{flat_map}
 use Rattle.boot_image.specs.Written.{with_paths}
 use Rattle.boot_image.proofs.Finding.{here}

@@ -1,4 +1,4 @@
-use Rattle.std.proofs.Common.{◌≡◌, ◌++◌, OnOk, ap, sym, subst, ◌∙◌}
+use Rattle.std.proofs.Common.{◌≡◌, ◌++◌, OnOk, sym, subst, ◌∙◌}
 use Rattle.boot_image.specs.Entries.{Content, bytes_of}
 use Rattle.boot_image.proofs.Contents.{content_none, content_dir, content_file}
 use Rattle.boot_image.proofs.write.put_entry.Goals as goal

@@ -1,10 +1,7 @@
 use Rattle.std.proofs.Common.{◌≡◌, ◌||◌, false, refl}
 use Rattle.std.specs.List.{list_any}
 use Rattle.std.proofs.lemmas.Result.{IfOk-weaker}
-use Rattle.wasm_ast.specs.declared.module.GlobalVar.{GlobalVar}
-use Rattle.wasm_ast.specs.declared.module.Element.{Element}
-use Rattle.wasm_ast.specs.declared.module.Segment.{Segment}
-use Rattle.wasm_ast.specs.declared.module.Code.{Code}
+use Rattle.wasm_ast.specs.declared.module.{GlobalVar.GlobalVar, Element.Element, Segment.Segment, Code.Code}
 use Rattle.wasm_decode.specs.declared.search.Found.{Found}
 use Rattle.wasm_decode.specs.Bodies.{any_body}
 use Rattle.wasm_decode.specs.Bounds.{is_deep}

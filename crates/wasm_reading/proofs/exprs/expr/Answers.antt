@@ -1,7 +1,7 @@
 use Rattle.std.proofs.Common.{◌∙◌, ap, Some}
 use Rattle.std.proofs.lemmas.Result.{err_from_is_err_and}
 use Rattle.wasm_reading.specs.declared.exprs.Step.{Step}
-use Rattle.wasm_reading.specs.declared.exprs.Step.TheVariants.{Going, Complete}
+use Rattle.wasm_reading.specs.declared.exprs.Step.TheVariants.{Continue, Complete}
 use Rattle.wasm_reading.proofs.ItemLemmas.{handed_on}
 use Rattle.wasm_reading.proofs.Steps.{step_to, step_none, step_shorter}
 use Rattle.wasm_reading.proofs.exprs.expr.Goals as goal
@@ -20,4 +20,4 @@ steps-smaller c = step_shorter c.steps.built c.steps.cursor c.in_ok-body.field-0
 
 pub steps-preserved : goal.steps-preserved
 steps-preserved c =
-    c.steps.invariant ∙ step_to c.steps.built c.steps.cursor (Going c.in-Going.next) c.next_step.new.cursor (c.in_ok-body.ensures ∙ ap (λ (p : Step). Some (p, c.next_step.new.cursor)) c.in-Going.is)
+    c.steps.invariant ∙ step_to c.steps.built c.steps.cursor (Continue c.in-Continue.next) c.next_step.new.cursor (c.in_ok-body.ensures ∙ ap (λ (p : Step). Some (p, c.next_step.new.cursor)) c.in-Continue.is)

@@ -18,7 +18,7 @@ malformed_of bytes (Err Malformed) h e n s = let no_module : None ≡ Some n = s
 malformed_of bytes (Err Memory) h e n s = cc
 
 pub returns-clause-found : goal.returns-clause-found
-returns-clause-found c = found_of c.args.bytes.now c.whole.result c.whole.ensures
+returns-clause-found c = found_of c.args.bytes.now c.read_all.result c.read_all.ensures
 
 pub returns-clause-malformed : goal.returns-clause-malformed
-returns-clause-malformed c = λ e. malformed_of c.args.bytes.now c.whole.result c.whole.ensures e
+returns-clause-malformed c = λ e. malformed_of c.args.bytes.now c.read_all.result c.read_all.ensures e

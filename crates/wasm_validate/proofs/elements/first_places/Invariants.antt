@@ -4,4 +4,4 @@ use Rattle.wasm_validate.proofs.elements.first_places.Given as goal
 
 abbrev pub invariant-loop-element : goal.invariant-loop-element
 invariant-loop-element l =
-    (i : ℕ) → i < length l.places.items → or_else (last_put (drop l.element-index l.module.elements) i) (get_or l.places.items i None) ≡ last_put l.module.elements i
+    (i : ℕ) → i < length l.places.items → or_else (last_put l.module (drop l.element-index l.module.elements) i) (get_or l.places.items i None) ≡ last_put l.module l.module.elements i

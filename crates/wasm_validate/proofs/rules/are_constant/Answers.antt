@@ -1,7 +1,6 @@
 use Rattle.std.proofs.Common.{sym, ap, ◌∙◌}
 use Rattle.wasm_ast.specs.Position.{sequence_at}
 use Rattle.wasm_ast.specs.TypingModule.{are_constant}
-use Rattle.wasm_ast.proofs.WalkLemmas.{whole_list}
 use Rattle.wasm_validate.proofs.ModuleLemmas.{are_constant-sequence}
 use Rattle.wasm_validate.proofs.rules.are_constant.Goals as goal
 
@@ -9,4 +8,4 @@ pub returns : goal.returns
 returns c =
     c.are_constant_instructions.ensures
     ∙ sym (are_constant-sequence c.args.globals.now (sequence_at c.args.body.now) c.list.result.now)
-    ∙ ap (are_constant c.args.globals.now) (whole_list c.args.body.now 0 c.list.result.now c.list.ensures)
+    ∙ ap (are_constant c.args.globals.now) (sym (c.list.ensures 0))

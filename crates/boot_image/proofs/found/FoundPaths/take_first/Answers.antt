@@ -1,4 +1,4 @@
-use Rattle.std.proofs.Common.{◌≡◌, ◌∷◌, ◌++◌, ap, sym, ◌∙◌, subst, arith, List, ℕ}
+use Rattle.std.proofs.Common.{◌∷◌, ap, sym, ◌∙◌, arith, List, ℕ}
 use Rattle.std.specs.Cmp.Lexicographic.{nat_list_cmp_total}
 use Rattle.std.specs.FinMap.{entries}
 use Rattle.std.proofs.lemmas.List.{nil_from_length}

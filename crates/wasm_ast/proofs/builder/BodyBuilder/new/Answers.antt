@@ -1,4 +1,4 @@
-use Rattle.std.proofs.Common.{◌≡◌, [], ◌∷◌, arith}
+use Rattle.std.proofs.Common.{arith}
 use Rattle.std.proofs.lemmas.Grind.{common_steps}
 use Rattle.wasm_ast.proofs.BuilderLemmas.{first_made}
 use Rattle.wasm_ast.proofs.builder.BodyBuilder.new.Goals as goal

@@ -1,6 +1,6 @@
 use Rattle.std.proofs.Common.{ap, ◌∙◌}
 use Rattle.wasm_ast.specs.Built.{with_open}
-use Rattle.wasm_ast.proofs.BuilderLemmas.{open_made, pushed, Becomes}
+use Rattle.wasm_ast.proofs.BuilderLemmas.{open_made, pushed}
 use Rattle.wasm_ast.proofs.builder.BodyBuilder.open.Goals as goal
 
 pub invariant_of-result : goal.invariant_of-result

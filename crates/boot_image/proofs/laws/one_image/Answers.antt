@@ -1,0 +1,5 @@
+use Rattle.boot_image.proofs.Once.{one_list, one_tree}
+use Rattle.boot_image.proofs.laws.one_image.Goals as goal
+
+pub returns : goal.returns
+returns c = record { entries = one_list; tree = one_tree }

@@ -1,0 +1,5 @@
+use Rattle.boot_image.proofs.Once.{read_back}
+use Rattle.boot_image.proofs.laws.written_is_read.Goals as goal
+
+pub returns : goal.returns
+returns c = read_back

@@ -1,0 +1,8 @@
+use Rattle.std.proofs.Common.{sym}
+use Rattle.file_tree.proofs.Ends.{walk_to_none, last_good}
+use Rattle.file_tree.proofs.tree.Tree.create.Goals as goal
+
+pub make-requires-clause-name : goal.make-requires-clause-name
+make-requires-clause-name c = λ none.
+    let named = walk_to_none c.self.inside.nodes c.args.from c.args.path.now c.in_ok-place.place (sym c.in_ok-place.ensures.place) none in
+    last_good c.args.path.now c.in_ok-place.ensures.parts named.0 named.1

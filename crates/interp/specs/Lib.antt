@@ -1,0 +1,4 @@
+pub mod Stops
+pub mod Operands
+pub mod Rows
+pub mod Reached

@@ -1,0 +1,12 @@
+pub mod Maps
+pub mod End
+pub mod Ending
+pub mod Threads
+pub mod Kernel
+pub mod Rows
+pub mod Ends
+pub mod Descriptors
+pub mod Answers
+pub mod Settling
+pub mod Readiness
+pub mod Beginning

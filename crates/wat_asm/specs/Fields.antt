@@ -1,0 +1,64 @@
+-- The fields of a module in the order of the text: WebAssembly Core 1.0, section 6.6.1.
+use Rattle.std.specs.Prelude.{ℕ, Bool, true, false, ◌||◌, ◌&&◌, if◌then◌else◌, List, [], ◌∷◌, codes, Option, Some, None, Result, Ok, Err}
+use Rattle.std.specs.Option.{option_map}
+use Rattle.std.specs.List.{list_any}
+use Rattle.std.specs.Str.{bytes_eq}
+use Rattle.wat_words.specs.Words.{is_identifier}
+use Rattle.wat_fields.specs.Items.{Items, Empty, Word, Text, Group}
+use Rattle.wat_asm.specs.Parsed.{Field, TypeField, ImportFunction, ImportMemory, FunctionField, TableField, MemoryField, GlobalField, ExportField, StartField, ElementField, DataField}
+use Rattle.wat_asm.specs.FieldForms.{field_of}
+
+-- something in a line of the text
+pub record InLine (A : Type 0) : Type 0 where
+  pub line : ℕ
+  pub value : A
+
+-- groups alone
+abbrev pub groups_of : Items → Option (List (InLine Items))
+groups_of Empty = Some []
+groups_of (Group line inside rest) = option_map (λ gs. record { line = line; value = inside } ∷ gs) (groups_of rest)
+groups_of items = None
+
+-- behind an identifier, if there is one
+abbrev pub behind_identifier : Items → Items
+behind_identifier (Word word rest) = if is_identifier word then rest else Word word rest
+behind_identifier items = items
+
+-- the fields of one group `(module $id? ..)`, whose fields are groups
+abbrev pub groups_in_module : Items → Option (List (InLine Items))
+groups_in_module (Group line (Word keyword inside) Empty) = if bytes_eq keyword (codes "module") then groups_of (behind_identifier inside) else None
+groups_in_module items = None
+
+abbrev pub is_import : Field → Bool
+is_import (ImportFunction from field name of) = true
+is_import (ImportMemory from field name of) = true
+is_import f = false
+
+-- a function, a table, a memory or a global of the module's own
+abbrev pub is_own : Field → Bool
+is_own (FunctionField f) = true
+is_own (TableField name of) = true
+is_own (MemoryField name exports of) = true
+is_own (GlobalField name of mutable value) = true
+is_own f = false
+
+abbrev pub is_start : Field → Bool
+is_start (StartField function) = true
+is_start f = false
+
+-- imports come before functions, tables, memories and globals, and there is one start at most
+abbrev pub is_misplaced : List Field → Field → Bool
+is_misplaced before f = is_import f && list_any is_own before || is_start f && list_any is_start before
+
+abbrev pub if_placed : List Field → ℕ → Option Field → (Field → Result (List (InLine Field)) ℕ) → Result (List (InLine Field)) ℕ
+if_placed before line None behind = Err line
+if_placed before line (Some f) behind = if is_misplaced before f then Err line else behind f
+
+abbrev pub with_field : ℕ → Field → Result (List (InLine Field)) ℕ → Result (List (InLine Field)) ℕ
+with_field line f (Err other) = Err other
+with_field line f (Ok fs) = Ok (record { line = line; value = f } ∷ fs)
+
+-- the fields of groups, which stand behind others, or the line of the first group that has no form or is misplaced
+abbrev pub fields_of : List Field → List (InLine Items) → Result (List (InLine Field)) ℕ
+fields_of before [] = Ok []
+fields_of before (g ∷ gs) = if_placed before g.line (field_of g.value) (λ f. with_field g.line f (fields_of (f ∷ before) gs))

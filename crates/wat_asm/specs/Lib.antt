@@ -1,0 +1,11 @@
+pub mod Parsed
+pub mod Immediates
+pub mod PlainForms
+pub mod InstructionForms
+pub mod FieldForms
+pub mod Fields
+pub mod Spaces
+pub mod Types
+pub mod Meaning
+pub mod Assembled
+pub mod Seen

@@ -1,0 +1,112 @@
+-- The forms of plain instructions: WebAssembly Core 1.0, section 6.5, and the threads proposal.
+use Rattle.std.specs.Prelude.{ℕ, zero, suc, ℤ, ◌+◌, ◌*◌, ◌==◌, Bool, true, false, ◌&&◌, nat_eq, if◌then◌else◌, List, [], ◌∷◌, ◌++◌, codes, drop, length, Option, Some, None}
+use Rattle.std.specs.List.{starts_with}
+use Rattle.std.specs.Option.{option_map, option_and_then}
+use Rattle.wasm_ast.specs.declared.instr.MemArg.{MemArg}
+use Rattle.wasm_ast.specs.declared.instr.Access.{Access}
+use Rattle.wasm_ast.specs.declared.instr.Instr.{Instr}
+use Rattle.wasm_ast.specs.declared.instr.Instr.TheVariants as instr
+use Rattle.wasm_ast.specs.Operators.{access_exponent}
+use Rattle.wat_words.specs.Words.{is_identifier}
+use Rattle.wat_words.specs.Numbers.{u32_of, i32_of, i64_of}
+use Rattle.wat_names.specs.declared.named.Named.{Named}
+use Rattle.wat_names.specs.declared.named.Named.TheVariants as named
+use Rattle.wat_asm.specs.Parsed.{Identifier, Reference, Variable, TypeUse, Plain, Alone, Br, BrIf, BrTable, Call, CallIndirect, OnVariable}
+use Rattle.wat_asm.specs.Immediates.{Immediate, Said, reference_of, only, use_front}
+
+-- no immediates
+abbrev pub none : Instr → List Immediate → Option Plain
+none i [] = Some (Alone i)
+none i (m ∷ ms) = None
+
+-- one index
+abbrev pub one : (Reference → Plain) → List Immediate → Option Plain
+one made (Said word ∷ []) = option_map made (reference_of word)
+one made ms = None
+
+-- one number
+abbrev pub number : (ℤ → Instr) → (List ℕ → Option ℤ) → List Immediate → Option Plain
+number made value (Said word ∷ []) = option_map (λ n. Alone (made n)) (value word)
+number made value ms = None
+
+-- at least one label, the last of which is the default (6.5.2)
+abbrev pub with_label : Reference → Plain → Plain
+with_label label (BrTable labels default) = BrTable (label ∷ labels) default
+with_label label i = i
+
+abbrev pub table : List Immediate → Option Plain
+table [] = None
+table (Said word ∷ []) = option_map (λ default. BrTable [] default) (reference_of word)
+table (Said word ∷ ms) = option_and_then (λ label. option_map (with_label label) (table ms)) (reference_of word)
+table (m ∷ ms) = None
+
+-- a number behind a text such as `offset=`
+abbrev pub behind : List ℕ → List ℕ → Option ℕ
+behind text word = if starts_with nat_eq word text then u32_of (drop (length text) word) else None
+
+-- the exponent of a power of 2, looked for among the first so many from this one on
+abbrev pub exponent_from : (count : ℕ) → (k power : ℕ) → ℕ → Option ℕ
+exponent_from zero k power n = None
+exponent_from (suc count) k power n = if n == power then Some k else exponent_from count (k + 1) (2 * power) n
+
+abbrev pub exponent_of : ℕ → Option ℕ
+exponent_of n = exponent_from 32 0 1 n
+
+abbrev pub offset_of : List ℕ → Option ℕ
+offset_of word = behind (codes "offset=") word
+
+abbrev pub align_of : List ℕ → Option ℕ
+align_of word = option_and_then exponent_of (behind (codes "align=") word)
+
+abbrev pub access : Access → (align offset : ℕ) → Plain
+access op align offset = Alone (instr.Access op (record { align = align; offset = offset }))
+
+-- `offset=n`? `align=n`?: without them 0, and the natural alignment (6.5.5)
+abbrev pub argument : Access → List Immediate → Option Plain
+argument op [] = Some (access op (access_exponent op) 0)
+argument op (Said word ∷ []) =
+    if starts_with nat_eq word (codes "offset=") then option_map (λ offset. access op (access_exponent op) offset) (offset_of word)
+    else option_map (λ align. access op align 0) (align_of word)
+argument op (Said first ∷ Said second ∷ []) =
+    option_and_then (λ offset. option_map (λ align. access op align offset) (align_of second)) (offset_of first)
+argument op ms = None
+
+abbrev pub is_nameless : Identifier → Bool
+is_nameless None = true
+is_nameless (Some name) = false
+
+-- parameters without identifiers
+abbrev pub are_nameless : List Variable → Bool
+are_nameless [] = true
+are_nameless (v ∷ vs) = is_nameless v.name && are_nameless vs
+
+-- the use of a type, which binds no names (6.5.2)
+abbrev pub indirect : Option TypeUse → Option Plain
+indirect None = None
+indirect (Some of) = if are_nameless of.params then Some (CallIndirect of) else None
+
+-- The instruction of a name with its immediates. Those that stand round instructions are none.
+abbrev pub plain_of : Named → List Immediate → Option Plain
+plain_of named.Unreachable ms = none instr.Unreachable ms
+plain_of named.Nop ms = none instr.Nop ms
+plain_of named.Block ms = None
+plain_of named.Loop ms = None
+plain_of named.If ms = None
+plain_of named.Else ms = None
+plain_of named.End ms = None
+plain_of named.Br ms = one Br ms
+plain_of named.BrIf ms = one BrIf ms
+plain_of named.BrTable ms = table ms
+plain_of named.Return ms = none instr.Return ms
+plain_of named.Call ms = one Call ms
+plain_of named.CallIndirect ms = indirect (only (use_front ms))
+plain_of named.Drop ms = none instr.Drop ms
+plain_of named.Select ms = none instr.Select ms
+plain_of (named.Variable op) ms = one (OnVariable op) ms
+plain_of (named.Access op) ms = argument op ms
+plain_of named.MemorySize ms = none instr.MemorySize ms
+plain_of named.MemoryGrow ms = none instr.MemoryGrow ms
+plain_of named.Fence ms = none instr.Fence ms
+plain_of named.I32Const ms = number instr.I32Const i32_of ms
+plain_of named.I64Const ms = number instr.I64Const i64_of ms
+plain_of (named.Numeric op) ms = none (instr.Numeric op) ms

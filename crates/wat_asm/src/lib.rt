@@ -1,0 +1,9 @@
+//! Modules from their text (WebAssembly Core 1.0, chapter 6).
+#![tactic(auto)]
+
+mod fault;
+mod groups;
+mod parsed;
+mod words;
+
+pub use fault::{AsmFault, AsmKind};

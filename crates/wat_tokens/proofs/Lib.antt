@@ -1,0 +1,5 @@
+pub mod EscapeLemmas
+pub mod CommentLemmas
+pub mod StringLemmas
+pub mod TokenLemmas
+pub mod LengthLemmas

@@ -1,0 +1,10 @@
+pub mod World
+pub mod Leads
+pub mod Weight
+pub mod Boot
+pub mod Run
+pub mod Stops
+pub mod Written
+pub mod Pipes
+pub mod Journal
+pub mod Laws
