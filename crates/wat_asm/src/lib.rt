@@ -2,7 +2,9 @@
 #![tactic(auto)]
 
 mod fault;
+mod fronts;
 mod groups;
+mod lists;
 mod parsed;
 mod words;
 
