@@ -11,7 +11,7 @@ use Rattle.wat_words.specs.Words.{is_identifier}
 use Rattle.wat_words.specs.Numbers.{u32_of, i32_of, i64_of}
 use Rattle.wat_fields.specs.Items.{Items, Empty, Word, Text, Group}
 use Rattle.wat_asm.specs.Parsed.{Identifier, Reference, Variable, TypeUse, Instructions, Exported, Function, Table, Memory, Global, Field, TypeField, ImportFunction, ImportMemory, FunctionField, TableField, MemoryField, GlobalField, ExportField, StartField, ElementField, DataField}
-use Rattle.wat_asm.specs.Immediates.{reference_of, type_of, is_empty, one_word, one_type, one_reference, name_of, Front, whole, identifier_front, exports_front, variables_front, use_front}
+use Rattle.wat_asm.specs.Immediates.{reference_of, type_of, is_empty, one_word, one_type, one_reference, name_of, word_front, text_front, group_front, Keyed, keyed, Front, whole, identifier_front, exports_front, variables_front, use_front}
 use Rattle.wat_asm.specs.InstructionForms.{instructions_of}
 
 -- ---- limits (6.4.4)
@@ -19,19 +19,37 @@ use Rattle.wat_asm.specs.InstructionForms.{instructions_of}
 abbrev pub limits : ℕ → Option ℕ → Bool → Limits
 limits min max shared = record { min = min; max = max; shared = shared }
 
+-- behind `n m`: `shared` or nothing
+abbrev pub memory_shared : (min max : ℕ) → Items → Option Limits
+memory_shared min max Empty = Some (limits min (Some max) false)
+memory_shared min max (Word word Empty) = if bytes_eq word (codes "shared") then Some (limits min (Some max) true) else None
+memory_shared min max items = None
+
+-- behind `n`: `m shared?` or nothing
+abbrev pub memory_max : (min : ℕ) → Items → Option Limits
+memory_max min Empty = Some (limits min None false)
+memory_max min (Word word rest) = option_and_then (λ max. memory_shared min max rest) (u32_of word)
+memory_max min items = None
+
 -- `n m? shared?`, where `shared` stands only behind an `m`
 abbrev pub memory_limits : Items → Option Limits
-memory_limits (Word min Empty) = option_map (λ n. limits n None false) (u32_of min)
-memory_limits (Word min (Word max Empty)) = option_and_then (λ n. option_map (λ m. limits n (Some m) false) (u32_of max)) (u32_of min)
-memory_limits (Word min (Word max (Word shared Empty))) =
-    if bytes_eq shared (codes "shared") then option_and_then (λ n. option_map (λ m. limits n (Some m) true) (u32_of max)) (u32_of min) else None
+memory_limits (Word word rest) = option_and_then (λ min. memory_max min rest) (u32_of word)
 memory_limits items = None
+
+-- `funcref` alone behind limits
+abbrev pub of_functions : Limits → Items → Option Limits
+of_functions of (Word word Empty) = if bytes_eq word (codes "funcref") then Some of else None
+of_functions of items = None
+
+-- behind `n`: `m funcref` or `funcref`
+abbrev pub table_max : (min : ℕ) → Items → Option Limits
+table_max min (Word word Empty) = of_functions (limits min None false) (Word word Empty)
+table_max min (Word word rest) = option_and_then (λ max. of_functions (limits min (Some max) false) rest) (u32_of word)
+table_max min items = None
 
 -- `n m? funcref`
 abbrev pub table_limits : Items → Option Limits
-table_limits (Word min (Word of Empty)) = if bytes_eq of (codes "funcref") then option_map (λ n. limits n None false) (u32_of min) else None
-table_limits (Word min (Word max (Word of Empty))) =
-    if bytes_eq of (codes "funcref") then option_and_then (λ n. option_map (λ m. limits n (Some m) false) (u32_of max)) (u32_of min) else None
+table_limits (Word word rest) = option_and_then (λ min. table_max min rest) (u32_of word)
 table_limits items = None
 
 -- ---- types (6.6.2)
@@ -44,10 +62,12 @@ abbrev pub inline_type : TypeUse → Option FuncType
 inline_type of = if is_none of.named then Some (function_type of) else None
 
 -- `(func param* result?)` alone
+abbrev pub type_of_keyed : Keyed → Option FuncType
+type_of_keyed k =
+    if bytes_eq k.keyword (codes "func") && is_empty k.rest then option_and_then inline_type (option_and_then whole (use_front k.inside)) else None
+
 abbrev pub type_of_group : Items → Option FuncType
-type_of_group (Group line (Word keyword inside) Empty) =
-    if bytes_eq keyword (codes "func") then option_and_then inline_type (option_and_then whole (use_front inside)) else None
-type_of_group items = None
+type_of_group items = option_and_then type_of_keyed (keyed items)
 
 abbrev pub type_field : Items → Option Field
 type_field items =
@@ -62,15 +82,22 @@ import_function from field name = option_map (ImportFunction from field name.val
 abbrev pub import_memory : List ℕ → List ℕ → Front Identifier → Option Field
 import_memory from field name = option_map (ImportMemory from field name.value) (memory_limits name.rest)
 
-abbrev pub imported : List ℕ → Items → List ℕ → List ℕ → Option Field
-imported keyword inside from field =
-    if bytes_eq keyword (codes "func") then import_function from field (identifier_front inside)
-    else (if bytes_eq keyword (codes "memory") then import_memory from field (identifier_front inside) else None)
+-- `(func $id? use)` or `(memory $id? n m? shared?)` alone
+abbrev pub import_of : (keyword : List ℕ) → Front Identifier → (from field : List ℕ) → Option Field
+import_of keyword name from field =
+    if bytes_eq keyword (codes "func") then import_function from field name
+    else (if bytes_eq keyword (codes "memory") then import_memory from field name else None)
 
+abbrev pub imported : (from field : List ℕ) → Keyed → Option Field
+imported from field k =
+    if is_empty k.rest
+    then option_and_then (λ m. option_and_then (import_of k.keyword (identifier_front k.inside) m) (name_of field)) (name_of from)
+    else None
+
+-- `"m" "n"`, and what is imported
 abbrev pub import_field : Items → Option Field
-import_field (Text from (Text field (Group line (Word keyword inside) Empty))) =
-    option_and_then (λ m. option_and_then (imported keyword inside m) (name_of field)) (name_of from)
-import_field items = None
+import_field items =
+    option_and_then (λ m. option_and_then (λ n. option_and_then (imported m.0 n.0) (keyed n.1)) (text_front m.1)) (text_front items)
 
 -- ---- functions, tables, memories and globals (6.6.5 to 6.6.8)
 
@@ -101,16 +128,15 @@ constant_of name word =
     else (if bytes_eq name (codes "i64.const") then option_map instr.I64Const (i64_of word) else None)
 
 abbrev pub constant : Items → Option Instr
-constant (Word name rest) = option_and_then (constant_of name) (one_word rest)
-constant items = None
+constant items = option_and_then (λ w. option_and_then (constant_of w.0) (one_word w.1)) (word_front items)
 
 -- `(mut t)`
 abbrev pub mutable_type : List ℕ → Items → Option ValType
 mutable_type keyword inside = if bytes_eq keyword (codes "mut") then one_type inside else None
 
 abbrev pub global_of : Identifier → Bool → ValType → Items → Option Field
-global_of name mutable of (Group line inside Empty) = option_map (GlobalField name of mutable) (constant inside)
-global_of name mutable of items = None
+global_of name mutable of items =
+    option_and_then (λ g. if is_empty g.1 then option_map (GlobalField name of mutable) (constant g.0) else None) (group_front items)
 
 -- a type, or one that is `mut`, and a constant
 abbrev pub global_behind : Identifier → Items → Option Field
@@ -132,10 +158,15 @@ exported keyword x =
     else (if bytes_eq keyword (codes "memory") then Some (Memory x)
     else (if bytes_eq keyword (codes "global") then Some (Global x) else None)))
 
+-- `(kind x)` alone
+abbrev pub export_of : (name : List ℕ) → Keyed → Option Field
+export_of name k =
+    if is_empty k.rest
+    then option_and_then (λ n. option_map (ExportField n) (option_and_then (exported k.keyword) (one_reference k.inside))) (name_of name)
+    else None
+
 abbrev pub export_field : Items → Option Field
-export_field (Text name (Group line (Word keyword inside) Empty)) =
-    option_and_then (λ n. option_map (ExportField n) (option_and_then (exported keyword) (one_reference inside))) (name_of name)
-export_field items = None
+export_field items = option_and_then (λ n. option_and_then (export_of n.0) (keyed n.1)) (text_front items)
 
 abbrev pub references_of : Items → Option (List Reference)
 references_of Empty = Some []
@@ -153,16 +184,13 @@ abbrev pub offset_of : List ℕ → List ℕ → Option Instr
 offset_of name word = if bytes_eq name (codes "i32.const") then option_map instr.I32Const (i32_of word) else None
 
 abbrev pub offset : Items → Option Instr
-offset (Word name rest) = option_and_then (offset_of name) (one_word rest)
-offset items = None
+offset items = option_and_then (λ w. option_and_then (offset_of w.0) (one_word w.1)) (word_front items)
 
 abbrev pub element_field : Items → Option Field
-element_field (Group line inside rest) = option_and_then (λ o. option_map (ElementField o) (references_of rest)) (offset inside)
-element_field items = None
+element_field items = option_and_then (λ g. option_and_then (λ o. option_map (ElementField o) (references_of g.1)) (offset g.0)) (group_front items)
 
 abbrev pub data_field : Items → Option Field
-data_field (Group line inside rest) = option_and_then (λ o. option_map (DataField o) (texts_of rest)) (offset inside)
-data_field items = None
+data_field items = option_and_then (λ g. option_and_then (λ o. option_map (DataField o) (texts_of g.1)) (offset g.0)) (group_front items)
 
 -- what a field says, by what stands inside its parentheses; none where it has no form
 abbrev pub form_of : (keyword : List ℕ) → Items → Option Field

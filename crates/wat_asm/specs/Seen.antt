@@ -1,6 +1,7 @@
 -- What fields say, as the code keeps it.
 use Rattle.std.specs.Prelude.{◌≡◌, ℕ, List, ◌++◌, map, Option, Some, None, Result, Ok, Err}
 use Rattle.std.specs.Option.{option_map}
+use Rattle.wasm_ast.specs.declared.types.FuncType.{FuncType}
 use Rattle.wat_tokens.specs.Tokens.{Token}
 use Rattle.wat_tokens.specs.declared.quoted.Quoted.{Quoted}
 use Rattle.wat_tokens.specs.Quoted.{quoted_bytes}
@@ -13,8 +14,21 @@ use Rattle.wat_asm.specs.declared.parsed.Reference as kept
 use Rattle.wat_asm.specs.declared.parsed.Reference.TheVariants as reference
 use Rattle.wat_asm.specs.declared.parsed.Variable as variable
 use Rattle.wat_asm.specs.declared.parsed.TypeUse as type_use
+use Rattle.wat_asm.specs.declared.parsed.Exported as kept_exported
+use Rattle.wat_asm.specs.declared.parsed.Exported.TheVariants as exported
+use Rattle.wat_asm.specs.declared.parsed.TypeField as type_field
+use Rattle.wat_asm.specs.declared.parsed.ImportOf as import_of
+use Rattle.wat_asm.specs.declared.parsed.ImportOf.TheVariants as imported
+use Rattle.wat_asm.specs.declared.parsed.ImportField as import_field
+use Rattle.wat_asm.specs.declared.parsed.TableField as table_field
+use Rattle.wat_asm.specs.declared.parsed.MemoryField as memory_field
+use Rattle.wat_asm.specs.declared.parsed.GlobalField as global_field
+use Rattle.wat_asm.specs.declared.parsed.ExportField as export_field
+use Rattle.wat_asm.specs.declared.parsed.ElementField as element_field
+use Rattle.wat_asm.specs.declared.parsed.DataField as data_field
 use Rattle.wat_asm.specs.declared.groups.KeyedGroup.{KeyedGroup}
-use Rattle.wat_asm.specs.Parsed.{Reference, Number, Named, Variable, TypeUse}
+use Rattle.wat_asm.specs.Parsed.{Reference, Number, Named, Variable, TypeUse, Exported, Function, Table, Memory, Global, Field, TypeField, ImportFunction, ImportMemory, TableField, MemoryField, GlobalField, ExportField, ElementField, DataField}
+use Rattle.wat_asm.specs.FieldForms.{function_type}
 use Rattle.wat_asm.specs.Immediates.{Front, front, Keyed}
 use denote.Ref.{Bor}
 
@@ -33,6 +47,47 @@ seen_variables vs = map seen_variable vs
 
 abbrev pub seen_use : type_use.TypeUse → TypeUse
 seen_use u = record { named = option_map seen_reference u.named; params = seen_variables u.params.items; result = u.of }
+
+-- ---- fields
+
+abbrev pub seen_exported : kept_exported.Exported → Exported
+seen_exported (exported.Function x) = Function (seen_reference x)
+seen_exported (exported.Table x) = Table (seen_reference x)
+seen_exported (exported.Memory x) = Memory (seen_reference x)
+seen_exported (exported.Global x) = Global (seen_reference x)
+
+abbrev pub seen_type : type_use.TypeUse → FuncType
+seen_type u = function_type (seen_use u)
+
+abbrev pub seen_type_field : type_field.TypeField → Field
+seen_type_field f = TypeField (seen_name f.name) (seen_type f.of)
+
+abbrev pub seen_import : (from field : List ℕ) → import_of.ImportOf → Field
+seen_import from field (imported.Function name of) = ImportFunction from field (seen_name name) (seen_use of)
+seen_import from field (imported.Memory name of) = ImportMemory from field (seen_name name) of
+
+abbrev pub seen_import_field : import_field.ImportField → Field
+seen_import_field f = seen_import f.from f.field f.of
+
+abbrev pub seen_table_field : table_field.TableField → Field
+seen_table_field f = TableField (seen_name f.name) f.of
+
+abbrev pub seen_memory_field : memory_field.MemoryField → Field
+seen_memory_field f = MemoryField (seen_name f.name) f.exports.items f.of
+
+abbrev pub seen_global_field : global_field.GlobalField → Field
+seen_global_field f = GlobalField (seen_name f.name) f.of f.mutable f.value
+
+abbrev pub seen_export_field : export_field.ExportField → Field
+seen_export_field f = ExportField f.name (seen_exported f.of)
+
+abbrev pub seen_element_field : element_field.ElementField → Field
+seen_element_field f = ElementField f.offset (map seen_reference f.functions.items)
+
+abbrev pub seen_data_field : data_field.DataField → Field
+seen_data_field f = DataField f.offset f.bytes
+
+-- ---- places
 
 -- the items behind a place
 abbrev pub at_place : List Token → Place → Items
