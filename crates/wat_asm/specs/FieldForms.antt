@@ -1,7 +1,7 @@
 -- The forms of fields: WebAssembly Core 1.0, section 6.6.
 use Rattle.std.specs.Prelude.{ℕ, ℤ, Bool, true, false, ◌&&◌, ◌||◌, if◌then◌else◌, List, [], ◌∷◌, ◌++◌, codes, Option, Some, None, map}
-use Rattle.std.specs.Option.{option_map, option_and_then}
-use Rattle.std.specs.Str.{bytes_eq, is_utf8}
+use Rattle.std.specs.Option.{is_none, option_map, option_and_then, option_to_list}
+use Rattle.std.specs.Str.{bytes_eq}
 use Rattle.wasm_ast.specs.declared.types.ValType.{ValType}
 use Rattle.wasm_ast.specs.declared.types.FuncType.{FuncType}
 use Rattle.wasm_ast.specs.declared.types.Limits.{Limits}
@@ -11,137 +11,143 @@ use Rattle.wat_words.specs.Words.{is_identifier}
 use Rattle.wat_words.specs.Numbers.{u32_of, i32_of, i64_of}
 use Rattle.wat_fields.specs.Items.{Items, Empty, Word, Text, Group}
 use Rattle.wat_asm.specs.Parsed.{Identifier, Reference, Variable, TypeUse, Instructions, Exported, Function, Table, Memory, Global, Field, TypeField, ImportFunction, ImportMemory, FunctionField, TableField, MemoryField, GlobalField, ExportField, StartField, ElementField, DataField}
-use Rattle.wat_asm.specs.Immediates.{Immediate, Said, all_some, reference_of, type_of, one_reference, identifier_front, exports_front, locals_front, use_front, only, if_empty}
-use Rattle.wat_asm.specs.InstructionForms.{Part, Row, row_of, nested}
-
--- the immediates of a row without instructions
-abbrev pub if_none : List Part → List Immediate → Option (List Immediate)
-if_none [] ms = Some ms
-if_none (p ∷ ps) ms = None
-
-abbrev pub immediates_of : Items → Option (List Immediate)
-immediates_of items = option_and_then (λ r. if_none r.parts r.immediates) (row_of items)
-
--- immediates that are words
-abbrev pub words_of : List Immediate → Option (List (List ℕ))
-words_of [] = Some []
-words_of (Said word ∷ ms) = option_map (λ ws. word ∷ ws) (words_of ms)
-words_of (m ∷ ms) = None
+use Rattle.wat_asm.specs.Immediates.{reference_of, type_of, is_empty, one_word, one_type, one_reference, name_of, word_front, text_front, group_front, Keyed, keyed, Front, whole, identifier_front, exports_front, variables_front, use_front}
+use Rattle.wat_asm.specs.InstructionForms.{instructions_of}
 
 -- ---- limits (6.4.4)
 
-abbrev pub bounded : ℕ → Bool → List ℕ → Option Limits
-bounded min shared max = option_map (λ m. record { min = min; max = Some m; shared = shared }) (u32_of max)
+abbrev pub limits : ℕ → Option ℕ → Bool → Limits
+limits min max shared = record { min = min; max = max; shared = shared }
 
--- `n m?` and, for a memory, `shared?` behind an `m`
-abbrev pub memory_limits : List (List ℕ) → Option Limits
-memory_limits (min ∷ []) = option_map (λ n. record { min = n; max = None; shared = false }) (u32_of min)
-memory_limits (min ∷ max ∷ []) = option_and_then (λ n. bounded n false max) (u32_of min)
-memory_limits (min ∷ max ∷ shared ∷ []) = if bytes_eq shared (codes "shared") then option_and_then (λ n. bounded n true max) (u32_of min) else None
-memory_limits ws = None
+-- behind `n m`: `shared` or nothing
+abbrev pub memory_shared : (min max : ℕ) → Items → Option Limits
+memory_shared min max Empty = Some (limits min (Some max) false)
+memory_shared min max (Word word Empty) = if bytes_eq word (codes "shared") then Some (limits min (Some max) true) else None
+memory_shared min max items = None
+
+-- behind `n`: `m shared?` or nothing
+abbrev pub memory_max : (min : ℕ) → Items → Option Limits
+memory_max min Empty = Some (limits min None false)
+memory_max min (Word word rest) = option_and_then (λ max. memory_shared min max rest) (u32_of word)
+memory_max min items = None
+
+-- `n m? shared?`, where `shared` stands only behind an `m`
+abbrev pub memory_limits : Items → Option Limits
+memory_limits (Word word rest) = option_and_then (λ min. memory_max min rest) (u32_of word)
+memory_limits items = None
+
+-- `funcref` alone behind limits
+abbrev pub of_functions : Limits → Items → Option Limits
+of_functions of (Word word Empty) = if bytes_eq word (codes "funcref") then Some of else None
+of_functions of items = None
+
+-- behind `n`: `m funcref` or `funcref`
+abbrev pub table_max : (min : ℕ) → Items → Option Limits
+table_max min (Word word Empty) = of_functions (limits min None false) (Word word Empty)
+table_max min (Word word rest) = option_and_then (λ max. of_functions (limits min (Some max) false) rest) (u32_of word)
+table_max min items = None
 
 -- `n m? funcref`
-abbrev pub table_limits : List (List ℕ) → Option Limits
-table_limits (min ∷ of ∷ []) = if bytes_eq of (codes "funcref") then option_map (λ n. record { min = n; max = None; shared = false }) (u32_of min) else None
-table_limits (min ∷ max ∷ of ∷ []) = if bytes_eq of (codes "funcref") then option_and_then (λ n. bounded n false max) (u32_of min) else None
-table_limits ws = None
+abbrev pub table_limits : Items → Option Limits
+table_limits (Word word rest) = option_and_then (λ min. table_max min rest) (u32_of word)
+table_limits items = None
 
 -- ---- types (6.6.2)
-
-abbrev pub option_to_list : {A : Type 0} → Option A → List A
-option_to_list None = []
-option_to_list (Some a) = a ∷ []
 
 abbrev pub function_type : TypeUse → FuncType
 function_type of = record { params = map (λ v. v.of) of.params; results = option_to_list of.result }
 
--- without `(type x)`
-abbrev pub inline_alone : Option Reference → TypeUse → Option FuncType
-inline_alone None of = Some (function_type of)
-inline_alone (Some x) of = None
-
+-- inline parameters and a result without `(type x)`
 abbrev pub inline_type : TypeUse → Option FuncType
-inline_type of = inline_alone of.named of
+inline_type of = if is_none of.named then Some (function_type of) else None
 
--- `(func param* result?)`
+-- `(func param* result?)` alone
+abbrev pub type_of_keyed : Keyed → Option FuncType
+type_of_keyed k =
+    if bytes_eq k.keyword (codes "func") && is_empty k.rest then option_and_then inline_type (option_and_then whole (use_front k.inside)) else None
+
 abbrev pub type_of_group : Items → Option FuncType
-type_of_group (Word keyword inside) =
-    if bytes_eq keyword (codes "func") then option_and_then inline_type (option_and_then (λ ms. only (use_front ms)) (immediates_of inside)) else None
-type_of_group items = None
+type_of_group items = option_and_then type_of_keyed (keyed items)
 
 abbrev pub type_field : Items → Option Field
-type_field (Group line inside Empty) = option_map (TypeField None) (type_of_group inside)
-type_field (Word name (Group line inside Empty)) = if is_identifier name then option_map (TypeField (Some name)) (type_of_group inside) else None
-type_field items = None
+type_field items =
+    let name = identifier_front items in
+    option_map (TypeField name.value) (type_of_group name.rest)
 
 -- ---- imports (6.6.4)
 
-abbrev pub import_function : List ℕ → List ℕ → List Immediate → Option Field
-import_function from field ms =
-    let name = identifier_front ms in
-    option_map (ImportFunction from field name.value) (only (use_front name.rest))
+abbrev pub import_function : List ℕ → List ℕ → Front Identifier → Option Field
+import_function from field name = option_map (ImportFunction from field name.value) (option_and_then whole (use_front name.rest))
 
-abbrev pub import_memory : List ℕ → List ℕ → List Immediate → Option Field
-import_memory from field ms =
-    let name = identifier_front ms in
-    option_map (ImportMemory from field name.value) (option_and_then memory_limits (words_of name.rest))
+abbrev pub import_memory : List ℕ → List ℕ → Front Identifier → Option Field
+import_memory from field name = option_map (ImportMemory from field name.value) (memory_limits name.rest)
 
-abbrev pub imported : List ℕ → List ℕ → List ℕ → List Immediate → Option Field
-imported from field keyword ms =
-    if bytes_eq keyword (codes "func") then import_function from field ms
-    else (if bytes_eq keyword (codes "memory") then import_memory from field ms else None)
+-- `(func $id? use)` or `(memory $id? n m? shared?)` alone
+abbrev pub import_of : (keyword : List ℕ) → Front Identifier → (from field : List ℕ) → Option Field
+import_of keyword name from field =
+    if bytes_eq keyword (codes "func") then import_function from field name
+    else (if bytes_eq keyword (codes "memory") then import_memory from field name else None)
 
--- the names are UTF-8 (6.3.4)
+abbrev pub imported : (from field : List ℕ) → Keyed → Option Field
+imported from field k =
+    if is_empty k.rest
+    then option_and_then (λ m. option_and_then (import_of k.keyword (identifier_front k.inside) m) (name_of field)) (name_of from)
+    else None
+
+-- `"m" "n"`, and what is imported
 abbrev pub import_field : Items → Option Field
-import_field (Text from (Text field (Group line (Word keyword inside) Empty))) =
-    if is_utf8 from && is_utf8 field then option_and_then (imported from field keyword) (immediates_of inside) else None
-import_field items = None
+import_field items =
+    option_and_then (λ m. option_and_then (λ n. option_and_then (imported m.0 n.0) (keyed n.1)) (text_front m.1)) (text_front items)
 
 -- ---- functions, tables, memories and globals (6.6.5 to 6.6.8)
 
 -- `$id? (export "n")* use local* instr*`
-abbrev pub function_field : Row → Option Field
-function_field r =
-    let name = identifier_front r.immediates in
-    let exports = exports_front name.rest in
-    let of = use_front exports.rest in
-    let locals = locals_front of.rest in
-    option_and_then (λ vs. option_map (λ body. FunctionField (record { name = name.value; exports = exports.value; of = of.value; locals = vs; body = body })) (nested r.parts)) (only locals)
+abbrev pub function_field : Items → Option Field
+function_field items =
+    let name = identifier_front items in
+    option_and_then (λ exports.
+    option_and_then (λ of.
+    option_and_then (λ locals.
+    option_map (λ body. FunctionField (record { name = name.value; exports = exports.value; of = of.value; locals = locals.value; body = body }))
+    (instructions_of locals.rest)) (variables_front (codes "local") of.rest)) (use_front exports.rest)) (exports_front name.rest)
 
-abbrev pub table_field : List Immediate → Option Field
-table_field ms =
-    let name = identifier_front ms in
-    option_map (TableField name.value) (option_and_then table_limits (words_of name.rest))
+abbrev pub table_field : Items → Option Field
+table_field items =
+    let name = identifier_front items in
+    option_map (TableField name.value) (table_limits name.rest)
 
-abbrev pub memory_field : List Immediate → Option Field
-memory_field ms =
-    let name = identifier_front ms in
-    let exports = exports_front name.rest in
-    option_map (MemoryField name.value exports.value) (option_and_then memory_limits (words_of exports.rest))
+abbrev pub memory_field : Items → Option Field
+memory_field items =
+    let name = identifier_front items in
+    option_and_then (λ exports. option_map (MemoryField name.value exports.value) (memory_limits exports.rest)) (exports_front name.rest)
 
--- `t.const n`
-abbrev pub constant : Items → Option Instr
-constant (Word name (Word word Empty)) =
+-- `i32.const n` or `i64.const n`
+abbrev pub constant_of : List ℕ → List ℕ → Option Instr
+constant_of name word =
     if bytes_eq name (codes "i32.const") then option_map instr.I32Const (i32_of word)
     else (if bytes_eq name (codes "i64.const") then option_map instr.I64Const (i64_of word) else None)
-constant items = None
 
--- the type of a global and whether it can be set: `t` or `(mut t)`
-abbrev pub mutable_type : Items → Option ValType
-mutable_type (Word keyword (Word word Empty)) = if bytes_eq keyword (codes "mut") then type_of word else None
-mutable_type items = None
+abbrev pub constant : Items → Option Instr
+constant items = option_and_then (λ w. option_and_then (constant_of w.0) (one_word w.1)) (word_front items)
 
-abbrev pub global_of : Identifier → Bool → Option ValType → Option Instr → Option Field
-global_of name mutable of value = option_and_then (λ t. option_map (GlobalField name t mutable) value) of
+-- `(mut t)`
+abbrev pub mutable_type : List ℕ → Items → Option ValType
+mutable_type keyword inside = if bytes_eq keyword (codes "mut") then one_type inside else None
 
+abbrev pub global_of : Identifier → Bool → ValType → Items → Option Field
+global_of name mutable of items =
+    option_and_then (λ g. if is_empty g.1 then option_map (GlobalField name of mutable) (constant g.0) else None) (group_front items)
+
+-- a type, or one that is `mut`, and a constant
 abbrev pub global_behind : Identifier → Items → Option Field
-global_behind name (Word of (Group line value Empty)) = global_of name false (type_of of) (constant value)
-global_behind name (Group line of (Group second value Empty)) = global_of name true (mutable_type of) (constant value)
+global_behind name (Word word rest) = option_and_then (λ of. global_of name false of rest) (type_of word)
+global_behind name (Group line (Word keyword inside) rest) = option_and_then (λ of. global_of name true of rest) (mutable_type keyword inside)
 global_behind name items = None
 
 abbrev pub global_field : Items → Option Field
-global_field (Word word rest) = if is_identifier word then global_behind (Some word) rest else global_behind None (Word word rest)
-global_field items = global_behind None items
+global_field items =
+    let name = identifier_front items in
+    global_behind name.value name.rest
 
 -- ---- exports, start, segments (6.6.9 to 6.6.12)
 
@@ -152,10 +158,15 @@ exported keyword x =
     else (if bytes_eq keyword (codes "memory") then Some (Memory x)
     else (if bytes_eq keyword (codes "global") then Some (Global x) else None)))
 
+-- `(kind x)` alone
+abbrev pub export_of : (name : List ℕ) → Keyed → Option Field
+export_of name k =
+    if is_empty k.rest
+    then option_and_then (λ n. option_map (ExportField n) (option_and_then (exported k.keyword) (one_reference k.inside))) (name_of name)
+    else None
+
 abbrev pub export_field : Items → Option Field
-export_field (Text name (Group line (Word keyword inside) Empty)) =
-    if is_utf8 name then option_map (ExportField name) (option_and_then (exported keyword) (one_reference inside)) else None
-export_field items = None
+export_field items = option_and_then (λ n. option_and_then (export_of n.0) (keyed n.1)) (text_front items)
 
 abbrev pub references_of : Items → Option (List Reference)
 references_of Empty = Some []
@@ -168,27 +179,27 @@ texts_of Empty = Some []
 texts_of (Text bytes rest) = option_map (λ more. bytes ++ more) (texts_of rest)
 texts_of items = None
 
--- `(i32.const n)`
+-- `i32.const n`
+abbrev pub offset_of : List ℕ → List ℕ → Option Instr
+offset_of name word = if bytes_eq name (codes "i32.const") then option_map instr.I32Const (i32_of word) else None
+
 abbrev pub offset : Items → Option Instr
-offset (Word name (Word word Empty)) = if bytes_eq name (codes "i32.const") then option_map instr.I32Const (i32_of word) else None
-offset items = None
+offset items = option_and_then (λ w. option_and_then (offset_of w.0) (one_word w.1)) (word_front items)
 
 abbrev pub element_field : Items → Option Field
-element_field (Group line inside rest) = option_and_then (λ o. option_map (ElementField o) (references_of rest)) (offset inside)
-element_field items = None
+element_field items = option_and_then (λ g. option_and_then (λ o. option_map (ElementField o) (references_of g.1)) (offset g.0)) (group_front items)
 
 abbrev pub data_field : Items → Option Field
-data_field (Group line inside rest) = option_and_then (λ o. option_map (DataField o) (texts_of rest)) (offset inside)
-data_field items = None
+data_field items = option_and_then (λ g. option_and_then (λ o. option_map (DataField o) (texts_of g.1)) (offset g.0)) (group_front items)
 
 -- what a field says, by what stands inside its parentheses; none where it has no form
 abbrev pub form_of : (keyword : List ℕ) → Items → Option Field
 form_of keyword inside =
     if bytes_eq keyword (codes "type") then type_field inside
     else (if bytes_eq keyword (codes "import") then import_field inside
-    else (if bytes_eq keyword (codes "func") then option_and_then function_field (row_of inside)
-    else (if bytes_eq keyword (codes "table") then option_and_then table_field (immediates_of inside)
-    else (if bytes_eq keyword (codes "memory") then option_and_then memory_field (immediates_of inside)
+    else (if bytes_eq keyword (codes "func") then function_field inside
+    else (if bytes_eq keyword (codes "table") then table_field inside
+    else (if bytes_eq keyword (codes "memory") then memory_field inside
     else (if bytes_eq keyword (codes "global") then global_field inside
     else (if bytes_eq keyword (codes "export") then export_field inside
     else (if bytes_eq keyword (codes "start") then option_map StartField (one_reference inside)

@@ -1,11 +1,11 @@
 -- The fields of a module in the order of the text: WebAssembly Core 1.0, section 6.6.1.
 use Rattle.std.specs.Prelude.{ℕ, Bool, true, false, ◌||◌, ◌&&◌, if◌then◌else◌, List, [], ◌∷◌, codes, Option, Some, None, Result, Ok, Err}
-use Rattle.std.specs.Option.{option_map}
+use Rattle.std.specs.Option.{option_map, option_and_then}
 use Rattle.std.specs.List.{list_any}
 use Rattle.std.specs.Str.{bytes_eq}
-use Rattle.wat_words.specs.Words.{is_identifier}
 use Rattle.wat_fields.specs.Items.{Items, Empty, Word, Text, Group}
 use Rattle.wat_asm.specs.Parsed.{Field, TypeField, ImportFunction, ImportMemory, FunctionField, TableField, MemoryField, GlobalField, ExportField, StartField, ElementField, DataField}
+use Rattle.wat_asm.specs.Immediates.{Keyed, keyed, is_empty, identifier_front}
 use Rattle.wat_asm.specs.FieldForms.{field_of}
 
 -- something in a line of the text
@@ -19,15 +19,16 @@ groups_of Empty = Some []
 groups_of (Group line inside rest) = option_map (λ gs. record { line = line; value = inside } ∷ gs) (groups_of rest)
 groups_of items = None
 
--- behind an identifier, if there is one
-abbrev pub behind_identifier : Items → Items
-behind_identifier (Word word rest) = if is_identifier word then rest else Word word rest
-behind_identifier items = items
+-- behind `module $id?` where one such group is all
+abbrev pub inside_of : Keyed → Option Items
+inside_of k = if bytes_eq k.keyword (codes "module") && is_empty k.rest then Some (identifier_front k.inside).rest else None
+
+abbrev pub module_inside : Items → Option Items
+module_inside items = option_and_then inside_of (keyed items)
 
 -- the fields of one group `(module $id? ..)`, whose fields are groups
 abbrev pub groups_in_module : Items → Option (List (InLine Items))
-groups_in_module (Group line (Word keyword inside) Empty) = if bytes_eq keyword (codes "module") then groups_of (behind_identifier inside) else None
-groups_in_module items = None
+groups_in_module items = option_and_then groups_of (module_inside items)
 
 abbrev pub is_import : Field → Bool
 is_import (ImportFunction from field name of) = true

@@ -1,5 +1,5 @@
 -- The forms of instructions, plain and folded: WebAssembly Core 1.0, section 6.5.
-use Rattle.std.specs.Prelude.{ℕ, Bool, true, false, if◌then◌else◌, List, [], ◌∷◌, ◌++◌, codes, Option, Some, None}
+use Rattle.std.specs.Prelude.{ℕ, Bool, true, false, ◌||◌, if◌then◌else◌, List, [], ◌∷◌, ◌++◌, codes, Option, Some, None}
 use Rattle.std.specs.Option.{option_map, option_and_then}
 use Rattle.std.specs.Str.{bytes_eq}
 use Rattle.wasm_ast.specs.declared.types.ValType.{ValType}
@@ -12,7 +12,7 @@ use Rattle.wat_names.specs.declared.named.Named.TheVariants as named
 use Rattle.wat_names.specs.Named.{named_by}
 use Rattle.wat_fields.specs.Items.{Items, Empty, Word, Text, Group}
 use Rattle.wat_asm.specs.Parsed.{Identifier, Plain, Instructions, Done, Then, Block, If}
-use Rattle.wat_asm.specs.Immediates.{Immediate, Said, group_of, identifier_front, result_front, only, if_empty}
+use Rattle.wat_asm.specs.Immediates.{is_empty, whole, identifier_front, result_front}
 use Rattle.wat_asm.specs.PlainForms.{plain_of}
 
 -- instructions behind others
@@ -98,39 +98,47 @@ levels [] = Some (level Done Last ∷ [])
 levels (p ∷ ps) = option_and_then (before p) (levels ps)
 
 -- instructions that are the only level
-abbrev pub whole : List Level → Option Instructions
-whole [] = None
-whole (l ∷ []) = if_last l.ending l.instructions
-whole (l ∷ m ∷ ls) = None
+abbrev pub only_level : List Level → Option Instructions
+only_level [] = None
+only_level (l ∷ []) = if_last l.ending l.instructions
+only_level (l ∷ m ∷ ls) = None
 
 -- the instructions of a row, whose blocks all begin and end in it
 abbrev pub nested : List Part → Option Instructions
-nested ps = option_and_then whole (levels ps)
+nested ps = option_and_then only_level (levels ps)
 
 -- ---- rows
 
--- the immediates in front of the first instruction of a row, and the row
+-- the items in front of the first instruction of a row, and the row
 pub record Row : Type 0 where
-  pub immediates : List Immediate
+  pub immediates : Items
   pub parts : List Part
 
-abbrev pub row : List Immediate → List Part → Row
-row ms ps = record { immediates = ms; parts = ps }
+abbrev pub row : Items → List Part → Row
+row items ps = record { immediates = items; parts = ps }
+
+-- a row that begins with an instruction, or is empty
+abbrev pub parts_alone : Row → Option (List Part)
+parts_alone r = if is_empty r.immediates then Some r.parts else None
+
+-- the instructions of a row that begins with one
+abbrev pub alone : Row → Option Instructions
+alone r = option_and_then nested (parts_alone r)
 
 -- `$id? (result t)?` (6.5.1)
-abbrev pub opens : Construct → List Immediate → Option Part
-opens c ms =
-    let label = identifier_front ms in
-    option_map (Opens c label.value) (only (result_front label.rest))
+abbrev pub opens : Construct → Items → Option Part
+opens c items =
+    let label = identifier_front items in
+    option_map (Opens c label.value) (option_and_then whole (result_front label.rest))
 
 -- the part that a name begins, with its immediates
-abbrev pub part_of : Named → List Immediate → Option Part
-part_of named.Block ms = opens (construct.Block kind.Block) ms
-part_of named.Loop ms = opens (construct.Block kind.Loop) ms
-part_of named.If ms = opens construct.If ms
-part_of named.Else ms = option_map Elses (only (identifier_front ms))
-part_of named.End ms = option_map Ends (only (identifier_front ms))
-part_of n ms = option_map One (plain_of n ms)
+abbrev pub part_of : Named → Items → Option Part
+part_of named.Block items = opens (construct.Block kind.Block) items
+part_of named.Loop items = opens (construct.Block kind.Loop) items
+part_of named.If items = opens construct.If items
+part_of named.Else items = option_map Elses (whole (identifier_front items))
+part_of named.End items = option_map Ends (whole (identifier_front items))
+part_of n items = option_map One (plain_of n items)
 
 -- ---- folded instructions (6.5.9)
 
@@ -154,12 +162,12 @@ folded_open ps (Some (Opens construct.If label of)) = option_map Folded (arms la
 folded_open ps (Some (One i)) = option_map (λ is. Folded (append is (Then i Done))) (operands ps)
 folded_open ps p = None
 
--- a second arm has no label
-abbrev pub second_arm : Row → Option Part
-second_arm r = option_and_then (λ ps. option_map SecondArm (nested ps)) (if_empty r.immediates r.parts)
-
+-- an arm has no label of its own
 abbrev pub first_arm : Row → Option Part
-first_arm r = option_and_then (λ ps. option_map FirstArm (nested ps)) (if_empty r.immediates r.parts)
+first_arm r = option_map FirstArm (alone r)
+
+abbrev pub second_arm : Row → Option Part
+second_arm r = option_map SecondArm (alone r)
 
 -- a group that begins with an instruction's name
 abbrev pub named_group : Row → Named → Option Part
@@ -173,21 +181,34 @@ folded keyword r =
 
 -- ---- the row of items
 
-abbrev pub said : List ℕ → Row → Option Named → Option Row
-said word r None = Some (row (Said word ∷ r.immediates) r.parts)
-said word r (Some n) = option_map (λ p. row [] (p ∷ r.parts)) (part_of n r.immediates)
+-- a word in front of a row: an instruction takes the immediates of the row
+abbrev pub with_word : List ℕ → Row → Option Named → Option Row
+with_word word r None = Some (row (Word word r.immediates) r.parts)
+with_word word r (Some n) = option_map (λ p. row Empty (p ∷ r.parts)) (part_of n r.immediates)
 
--- a row has no immediates in front of a part that is folded
-abbrev pub with_group : List ℕ → Items → Option Row → Row → Option (Option Immediate) → Option Row
-with_group keyword inside behind r (Some m) = option_map (λ i. row (i ∷ r.immediates) r.parts) m
-with_group keyword inside behind r None =
-    option_and_then (λ b. option_and_then (λ p. option_map (λ ps. row [] (p ∷ ps)) (if_empty r.immediates r.parts)) (folded keyword b)) behind
+-- a folded instruction in front of a row, which has no immediates then
+abbrev pub with_part : Row → Part → Option Row
+with_part r p = option_map (λ ps. row Empty (p ∷ ps)) (parts_alone r)
+
+-- groups that are immediates
+abbrev pub is_immediate : (keyword : List ℕ) → Bool
+is_immediate keyword =
+    bytes_eq keyword (codes "type") || bytes_eq keyword (codes "param") || bytes_eq keyword (codes "result")
+
+-- a group in front of a row, by its line, its keyword, what is behind that, and the row of the latter
+abbrev pub with_group : ℕ → List ℕ → Items → Option Row → Row → Option Row
+with_group line keyword inside behind r =
+    if is_immediate keyword then Some (row (Group line (Word keyword inside) r.immediates) r.parts)
+    else option_and_then (with_part r) (option_and_then (folded keyword) behind)
 
 -- An instruction's immediates are the words and groups behind its name that begin no instruction.
 abbrev pub row_of : Items → Option Row
-row_of Empty = Some (row [] [])
-row_of (Word word rest) = option_and_then (λ r. said word r (named_by word)) (row_of rest)
+row_of Empty = Some (row Empty [])
+row_of (Word word rest) = option_and_then (λ r. with_word word r (named_by word)) (row_of rest)
 row_of (Text bytes rest) = None
-row_of (Group line (Word keyword inside) rest) =
-    option_and_then (λ r. with_group keyword inside (row_of inside) r (group_of keyword inside)) (row_of rest)
+row_of (Group line (Word keyword inside) rest) = option_and_then (with_group line keyword inside (row_of inside)) (row_of rest)
 row_of (Group line inside rest) = None
+
+-- the instructions that items are (6.5)
+abbrev pub instructions_of : Items → Option Instructions
+instructions_of items = option_and_then alone (row_of items)

@@ -18,9 +18,14 @@ use Rattle.wasm_ast.specs.Sequence.{Sequence, Empty}
 use Rattle.wasm_ast.specs.Sequence as sequence
 use Rattle.wasm_ast.specs.Locals.{added}
 use Rattle.wat_asm.specs.Parsed.{Identifier, Reference, Variable, TypeUse, Plain, Alone, Br, BrIf, BrTable, Call, CallIndirect, OnVariable, Instructions, Done, Then, Block, If, Exported, Function, Table, Memory, Global, FunctionParts, Field, TypeField, ImportFunction, ImportMemory, FunctionField, TableField, MemoryField, GlobalField, ExportField, StartField, ElementField, DataField}
-use Rattle.wat_asm.specs.Immediates.{all_some}
 use Rattle.wat_asm.specs.Spaces.{is_named, index_in, are_distinct, Space, Types, Functions, Tables, Memories, Globals, space_of}
 use Rattle.wat_asm.specs.Types.{Found, meaning_of}
+
+-- each of them, or nothing where one is none
+abbrev pub all_some : {A : Type 0} → List (Option A) → Option (List A)
+all_some [] = Some []
+all_some (None ∷ rest) = None
+all_some (Some a ∷ rest) = option_map (λ more. a ∷ more) (all_some rest)
 
 -- what names mean in a module: the fields that bind them, and the types
 pub record Context : Type 0 where

@@ -12,33 +12,31 @@ use Rattle.wat_words.specs.Numbers.{u32_of, i32_of, i64_of}
 use Rattle.wat_names.specs.declared.named.Named.{Named}
 use Rattle.wat_names.specs.declared.named.Named.TheVariants as named
 use Rattle.wat_asm.specs.Parsed.{Identifier, Reference, Variable, TypeUse, Plain, Alone, Br, BrIf, BrTable, Call, CallIndirect, OnVariable}
-use Rattle.wat_asm.specs.Immediates.{Immediate, Said, reference_of, only, use_front}
+use Rattle.wat_fields.specs.Items.{Items, Empty, Word}
+use Rattle.wat_asm.specs.Immediates.{reference_of, one_word, one_reference, whole, use_front}
 
 -- no immediates
-abbrev pub none : Instr → List Immediate → Option Plain
-none i [] = Some (Alone i)
-none i (m ∷ ms) = None
+abbrev pub none : Instr → Items → Option Plain
+none i Empty = Some (Alone i)
+none i items = None
 
 -- one index
-abbrev pub one : (Reference → Plain) → List Immediate → Option Plain
-one made (Said word ∷ []) = option_map made (reference_of word)
-one made ms = None
+abbrev pub one : (Reference → Plain) → Items → Option Plain
+one made items = option_map made (one_reference items)
 
 -- one number
-abbrev pub number : (ℤ → Instr) → (List ℕ → Option ℤ) → List Immediate → Option Plain
-number made value (Said word ∷ []) = option_map (λ n. Alone (made n)) (value word)
-number made value ms = None
+abbrev pub number : (ℤ → Instr) → (List ℕ → Option ℤ) → Items → Option Plain
+number made value items = option_map (λ n. Alone (made n)) (option_and_then value (one_word items))
 
 -- at least one label, the last of which is the default (6.5.2)
 abbrev pub with_label : Reference → Plain → Plain
 with_label label (BrTable labels default) = BrTable (label ∷ labels) default
 with_label label i = i
 
-abbrev pub table : List Immediate → Option Plain
-table [] = None
-table (Said word ∷ []) = option_map (λ default. BrTable [] default) (reference_of word)
-table (Said word ∷ ms) = option_and_then (λ label. option_map (with_label label) (table ms)) (reference_of word)
-table (m ∷ ms) = None
+abbrev pub table : Items → Option Plain
+table (Word word Empty) = option_map (λ default. BrTable [] default) (reference_of word)
+table (Word word rest) = option_and_then (λ label. option_map (with_label label) (table rest)) (reference_of word)
+table items = None
 
 -- a number behind a text such as `offset=`
 abbrev pub behind : List ℕ → List ℕ → Option ℕ
@@ -62,14 +60,17 @@ abbrev pub access : Access → (align offset : ℕ) → Plain
 access op align offset = Alone (instr.Access op (record { align = align; offset = offset }))
 
 -- `offset=n`? `align=n`?: without them 0, and the natural alignment (6.5.5)
-abbrev pub argument : Access → List Immediate → Option Plain
-argument op [] = Some (access op (access_exponent op) 0)
-argument op (Said word ∷ []) =
+abbrev pub one_argument : Access → List ℕ → Option Plain
+one_argument op word =
     if starts_with nat_eq word (codes "offset=") then option_map (λ offset. access op (access_exponent op) offset) (offset_of word)
     else option_map (λ align. access op align 0) (align_of word)
-argument op (Said first ∷ Said second ∷ []) =
+
+abbrev pub argument : Access → Items → Option Plain
+argument op Empty = Some (access op (access_exponent op) 0)
+argument op (Word word Empty) = one_argument op word
+argument op (Word first (Word second Empty)) =
     option_and_then (λ offset. option_map (λ align. access op align offset) (align_of second)) (offset_of first)
-argument op ms = None
+argument op items = None
 
 abbrev pub is_nameless : Identifier → Bool
 is_nameless None = true
@@ -86,27 +87,27 @@ indirect None = None
 indirect (Some of) = if are_nameless of.params then Some (CallIndirect of) else None
 
 -- The instruction of a name with its immediates. Those that stand round instructions are none.
-abbrev pub plain_of : Named → List Immediate → Option Plain
-plain_of named.Unreachable ms = none instr.Unreachable ms
-plain_of named.Nop ms = none instr.Nop ms
-plain_of named.Block ms = None
-plain_of named.Loop ms = None
-plain_of named.If ms = None
-plain_of named.Else ms = None
-plain_of named.End ms = None
-plain_of named.Br ms = one Br ms
-plain_of named.BrIf ms = one BrIf ms
-plain_of named.BrTable ms = table ms
-plain_of named.Return ms = none instr.Return ms
-plain_of named.Call ms = one Call ms
-plain_of named.CallIndirect ms = indirect (only (use_front ms))
-plain_of named.Drop ms = none instr.Drop ms
-plain_of named.Select ms = none instr.Select ms
-plain_of (named.Variable op) ms = one (OnVariable op) ms
-plain_of (named.Access op) ms = argument op ms
-plain_of named.MemorySize ms = none instr.MemorySize ms
-plain_of named.MemoryGrow ms = none instr.MemoryGrow ms
-plain_of named.Fence ms = none instr.Fence ms
-plain_of named.I32Const ms = number instr.I32Const i32_of ms
-plain_of named.I64Const ms = number instr.I64Const i64_of ms
-plain_of (named.Numeric op) ms = none (instr.Numeric op) ms
+abbrev pub plain_of : Named → Items → Option Plain
+plain_of named.Unreachable items = none instr.Unreachable items
+plain_of named.Nop items = none instr.Nop items
+plain_of named.Block items = None
+plain_of named.Loop items = None
+plain_of named.If items = None
+plain_of named.Else items = None
+plain_of named.End items = None
+plain_of named.Br items = one Br items
+plain_of named.BrIf items = one BrIf items
+plain_of named.BrTable items = table items
+plain_of named.Return items = none instr.Return items
+plain_of named.Call items = one Call items
+plain_of named.CallIndirect items = indirect (option_and_then whole (use_front items))
+plain_of named.Drop items = none instr.Drop items
+plain_of named.Select items = none instr.Select items
+plain_of (named.Variable op) items = one (OnVariable op) items
+plain_of (named.Access op) items = argument op items
+plain_of named.MemorySize items = none instr.MemorySize items
+plain_of named.MemoryGrow items = none instr.MemoryGrow items
+plain_of named.Fence items = none instr.Fence items
+plain_of named.I32Const items = number instr.I32Const i32_of items
+plain_of named.I64Const items = number instr.I64Const i64_of items
+plain_of (named.Numeric op) items = none (instr.Numeric op) items

@@ -2,8 +2,13 @@
 #![tactic(auto)]
 
 mod fault;
+mod fronts;
 mod groups;
+mod limits;
+mod lists;
+mod module_group;
 mod parsed;
+mod small_fields;
 mod words;
 
 pub use fault::{AsmFault, AsmKind};
