@@ -4,9 +4,8 @@ use Rattle.wasm_ast.specs.declared.module.Module.{Module}
 use Rattle.wasm_ast.specs.SpelledModule.{SpellsModule}
 use Rattle.wasm_decode.specs.declared.fault.DecodeFault.{DecodeFault}
 use Rattle.wasm_decode.specs.declared.fault.DecodeFault.TheVariants as decoding
-use Rattle.wasm_decode.specs.Decodes as decodes
 use Rattle.wasm_decode.specs.Decodes.{Decodes}
-use Rattle.wasm_decode.proofs.DecodeRows.{module_comes, malformed_comes, float_comes, limit_comes}
+use Rattle.wasm_decode.proofs.DecodeRows.{agree}
 use Rattle.instance.specs.declared.fault.LoadFault.{LoadFault}
 use Rattle.instance.specs.declared.fault.LoadFault.TheVariants.{Malformed, Float, Limit, Invalid, Unlinked, SegmentOutside, NotYet, Memory}
 use Rattle.instance.specs.Program.{Program}
@@ -45,16 +44,9 @@ from bytes (Err NotYet) l = linked_from bytes (Err NotYet) l
 from bytes (Err Memory) l = (Err decoding.Memory, l, refl)
 
 module _ (bytes : List ℕ) (one : (m n : Module) → SpellsModule bytes m → SpellsModule bytes n → m ≡ n) where
-  same_decoded : (d e : Decoded) → Decodes bytes d → Decodes bytes e → (e ≡ Err decoding.Memory → ⊥) → decodes.IsUnlessMemory d e
-  same_decoded d (Ok m) s t n = module_comes bytes one d s m t
-  same_decoded d (Err decoding.Malformed) s t n = malformed_comes bytes one d s t
-  same_decoded d (Err decoding.Float) s t n = float_comes bytes one d s t
-  same_decoded d (Err (decoding.Limit bound)) s t n = limit_comes bytes one d s bound t
-  same_decoded d (Err decoding.Memory) s t n = absurd (n refl)
-
   pub one_answer : (r a : Answer) → Loads bytes r → Loads bytes a → (a ≡ Err Memory → ⊥) → IsUnlessMemory r a
   one_answer r a l k n =
       let f = from bytes r l in
       let g = from bytes a k in
       let other : g.0 ≡ Err decoding.Memory → ⊥ = λ e. n (g.2 ∙ ap answer_of e) in
-      ⊎_elim (λ e. inl (f.2 ∙ ap answer_of e ∙ sym g.2)) (λ e. inr (f.2 ∙ ap answer_of e)) (same_decoded f.0 g.0 f.1 g.1 other)
+      ⊎_elim (λ e. inl (f.2 ∙ ap answer_of e ∙ sym g.2)) (λ e. inr (f.2 ∙ ap answer_of e)) (agree bytes one f.0 g.0 other f.1 g.1)
