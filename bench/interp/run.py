@@ -38,7 +38,7 @@ def built(repository, copy):
     with open(os.path.join(repository, "crates.txt")) as file:
         rows = [line.split(":") for line in file if ":" in line and not line.startswith("#")]
     lines = {name.strip(): words.split() for name, words in rows}
-    lines["bench_interp"] = "anyhow guest_state interp linear_memory wasm_ast wasm_decode wasm_validate".split()
+    lines["bench_interp"] = "anyhow instance interp".split()
     crates = below(lines, "bench_interp", [])
     for name in crates[:-1]:
         shutil.copytree(os.path.join(repository, "crates", name), os.path.join(copy, "crates", name))
