@@ -1,5 +1,5 @@
 -- The forms of fields: WebAssembly Core 1.0, section 6.6.
-use Rattle.std.specs.Prelude.{ℕ, ℤ, Bool, true, false, ◌&&◌, ◌||◌, if◌then◌else◌, List, [], ◌∷◌, ◌++◌, codes, Option, Some, None, map}
+use Rattle.std.specs.Prelude.{ℕ, Bool, true, false, ◌&&◌, if◌then◌else◌, List, [], ◌∷◌, ◌++◌, codes, Option, Some, None, map}
 use Rattle.std.specs.Option.{is_none, option_map, option_and_then, option_to_list}
 use Rattle.std.specs.Str.{bytes_eq}
 use Rattle.wasm_ast.specs.declared.types.ValType.{ValType}
@@ -7,10 +7,9 @@ use Rattle.wasm_ast.specs.declared.types.FuncType.{FuncType}
 use Rattle.wasm_ast.specs.declared.types.Limits.{Limits}
 use Rattle.wasm_ast.specs.declared.instr.Instr.{Instr}
 use Rattle.wasm_ast.specs.declared.instr.Instr.TheVariants as instr
-use Rattle.wat_words.specs.Words.{is_identifier}
 use Rattle.wat_words.specs.Numbers.{u32_of, i32_of, i64_of}
 use Rattle.wat_fields.specs.Items.{Items, Empty, Word, Text, Group}
-use Rattle.wat_asm.specs.Parsed.{Identifier, Reference, Variable, TypeUse, Instructions, Exported, Function, Table, Memory, Global, Field, TypeField, ImportFunction, ImportMemory, FunctionField, TableField, MemoryField, GlobalField, ExportField, StartField, ElementField, DataField}
+use Rattle.wat_asm.specs.Parsed.{Identifier, Reference, TypeUse, Exported, Function, Table, Memory, Global, Field, TypeField, ImportFunction, ImportMemory, FunctionField, TableField, MemoryField, GlobalField, ExportField, StartField, ElementField, DataField}
 use Rattle.wat_asm.specs.Immediates.{reference_of, type_of, is_empty, one_word, one_type, one_reference, name_of, word_front, text_front, group_front, Keyed, keyed, Front, whole, identifier_front, exports_front, variables_front, use_front}
 use Rattle.wat_asm.specs.InstructionForms.{instructions_of}
 

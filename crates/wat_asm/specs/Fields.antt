@@ -3,8 +3,8 @@ use Rattle.std.specs.Prelude.{ℕ, Bool, true, false, ◌||◌, ◌&&◌, if◌t
 use Rattle.std.specs.Option.{option_map, option_and_then}
 use Rattle.std.specs.List.{list_any}
 use Rattle.std.specs.Str.{bytes_eq}
-use Rattle.wat_fields.specs.Items.{Items, Empty, Word, Text, Group}
-use Rattle.wat_asm.specs.Parsed.{Field, TypeField, ImportFunction, ImportMemory, FunctionField, TableField, MemoryField, GlobalField, ExportField, StartField, ElementField, DataField}
+use Rattle.wat_fields.specs.Items.{Items, Empty, Group}
+use Rattle.wat_asm.specs.Parsed.{Field, ImportFunction, ImportMemory, FunctionField, TableField, MemoryField, GlobalField, StartField}
 use Rattle.wat_asm.specs.Immediates.{Keyed, keyed, is_empty, identifier_front}
 use Rattle.wat_asm.specs.FieldForms.{field_of}
 

@@ -1,9 +1,8 @@
 -- The forms of instructions, plain and folded: WebAssembly Core 1.0, section 6.5.
-use Rattle.std.specs.Prelude.{ℕ, Bool, true, false, ◌||◌, if◌then◌else◌, List, [], ◌∷◌, ◌++◌, codes, Option, Some, None}
+use Rattle.std.specs.Prelude.{ℕ, Bool, ◌||◌, if◌then◌else◌, List, [], ◌∷◌, codes, Option, Some, None}
 use Rattle.std.specs.Option.{option_map, option_and_then}
 use Rattle.std.specs.Str.{bytes_eq}
 use Rattle.wasm_ast.specs.declared.types.ValType.{ValType}
-use Rattle.wasm_ast.specs.declared.instr.BlockKind.{BlockKind}
 use Rattle.wasm_ast.specs.declared.instr.BlockKind.TheVariants as kind
 use Rattle.wasm_ast.specs.declared.instr.Construct.{Construct}
 use Rattle.wasm_ast.specs.declared.instr.Construct.TheVariants as construct

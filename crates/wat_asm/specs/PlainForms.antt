@@ -1,13 +1,11 @@
 -- The forms of plain instructions: WebAssembly Core 1.0, section 6.5, and the threads proposal.
-use Rattle.std.specs.Prelude.{ℕ, zero, suc, ℤ, ◌+◌, ◌*◌, ◌==◌, Bool, true, false, ◌&&◌, nat_eq, if◌then◌else◌, List, [], ◌∷◌, ◌++◌, codes, drop, length, Option, Some, None}
+use Rattle.std.specs.Prelude.{ℕ, zero, suc, ℤ, ◌+◌, ◌*◌, ◌==◌, Bool, true, false, ◌&&◌, nat_eq, if◌then◌else◌, List, [], ◌∷◌, codes, drop, length, Option, Some, None}
 use Rattle.std.specs.List.{starts_with}
 use Rattle.std.specs.Option.{option_map, option_and_then}
-use Rattle.wasm_ast.specs.declared.instr.MemArg.{MemArg}
 use Rattle.wasm_ast.specs.declared.instr.Access.{Access}
 use Rattle.wasm_ast.specs.declared.instr.Instr.{Instr}
 use Rattle.wasm_ast.specs.declared.instr.Instr.TheVariants as instr
 use Rattle.wasm_ast.specs.Operators.{access_exponent}
-use Rattle.wat_words.specs.Words.{is_identifier}
 use Rattle.wat_words.specs.Numbers.{u32_of, i32_of, i64_of}
 use Rattle.wat_names.specs.declared.named.Named.{Named}
 use Rattle.wat_names.specs.declared.named.Named.TheVariants as named

@@ -1,8 +1,8 @@
 -- The identifiers that fields bind, and the indices that they are bound to: WebAssembly Core 1.0, sections 6.3.5 and 6.6.1.
-use Rattle.std.specs.Prelude.{ℕ, ◌+◌, Bool, true, false, ◌||◌, if◌then◌else◌, List, [], ◌∷◌, ◌++◌, Option, Some, None}
+use Rattle.std.specs.Prelude.{ℕ, Bool, true, false, ◌||◌, if◌then◌else◌, List, [], ◌∷◌, Option, Some, None}
 use Rattle.std.specs.List.{flat_map, list_any, position}
 use Rattle.std.specs.Str.{bytes_eq}
-use Rattle.wat_asm.specs.Parsed.{Identifier, Reference, Number, Named, Field, TypeField, ImportFunction, ImportMemory, FunctionField, TableField, MemoryField, GlobalField, ExportField, StartField, ElementField, DataField}
+use Rattle.wat_asm.specs.Parsed.{Identifier, Reference, Number, Named, Field, TypeField, ImportFunction, ImportMemory, FunctionField, TableField, MemoryField, GlobalField}
 
 -- whether an identifier is this one
 abbrev pub is_named : List ℕ → Identifier → Bool

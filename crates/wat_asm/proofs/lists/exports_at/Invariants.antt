@@ -1,4 +1,4 @@
-use Rattle.std.proofs.Common.{◌≡◌, ℕ, ◌-◌, length}
+use Rattle.std.proofs.Common.{◌≡◌, ◌-◌, length}
 use Rattle.std.specs.Option.{option_map}
 use Rattle.wat_asm.specs.Immediates.{exports_front}
 use Rattle.wat_asm.specs.Seen.{at_place}

@@ -1,4 +1,4 @@
-use Rattle.std.proofs.Common.{◌≡◌, ℕ, ◌-◌, length}
+use Rattle.std.proofs.Common.{◌≡◌, ◌-◌, length}
 use Rattle.std.specs.Option.{is_some}
 use Rattle.wat_asm.specs.Fields.{groups_of}
 use Rattle.wat_asm.specs.Seen.{at_place}

@@ -1,4 +1,4 @@
-use Rattle.std.proofs.Common.{◌≡◌, ℕ, ◌-◌, ◌++◌, length, map}
+use Rattle.std.proofs.Common.{◌≡◌, ◌-◌, ◌++◌, length, map}
 use Rattle.std.specs.Option.{option_map}
 use Rattle.wat_asm.specs.FieldForms.{references_of}
 use Rattle.wat_asm.specs.Seen.{at_place, seen_reference}

@@ -1,7 +1,7 @@
-use Rattle.std.proofs.Common.{◌≡◌, ℕ, ◌-◌, ◌++◌, length, map}
+use Rattle.std.proofs.Common.{◌≡◌, ◌-◌, ◌++◌, length}
 use Rattle.std.specs.Option.{option_map}
 use Rattle.wat_asm.specs.FieldForms.{texts_of}
-use Rattle.wat_asm.specs.Seen.{at_place, seen_reference}
+use Rattle.wat_asm.specs.Seen.{at_place}
 use Rattle.wat_asm.proofs.small_fields.texts_at.Given as goal
 
 abbrev pub invariant-loop-met : goal.invariant-loop-met

@@ -1,4 +1,4 @@
-use Rattle.std.proofs.Common.{◌≡◌, ℕ, ◌-◌}
+use Rattle.std.proofs.Common.{◌≡◌, ◌-◌}
 use Rattle.wat_asm.specs.PlainForms.{exponent_of, exponent_from}
 use Rattle.wat_asm.proofs.words.exponent_of.Given as goal
 

@@ -1,0 +1,175 @@
+// The identifiers that fields bind: WebAssembly Core 1.0, sections 6.3.5 and 6.6.1.
+ghost use Rattle.std.specs.Prelude.{◌≡◌, [], ◌∷◌, ◌++◌, IfOk};
+ghost use Rattle.wat_asm.specs.KeptSpaces.{no_names, import_with, spaces_with, import_rebinds, kept_rebinds, spaces_of_kept};
+
+use super::field::{Field, FieldInLine};
+use super::names::Names;
+use super::parsed::ImportOf;
+use std::alloc::{AllocError, Global};
+
+/// The identifiers of each space.
+#[derive(Drop)]
+pub(crate) struct Spaces<'a> {
+    pub(crate) types: Names<'a>,
+    pub(crate) functions: Names<'a>,
+    pub(crate) tables: Names<'a>,
+    pub(crate) memories: Names<'a>,
+    pub(crate) globals: Names<'a>,
+}
+
+impl<'a> Spaces<'a> {
+    /// None yet. No memory is taken.
+    pub(crate) fn new(alloc: Global) -> Spaces<'a>
+        ensures { result ≡ no_names }
+    {
+        Spaces {
+            types: Names::new(alloc),
+            functions: Names::new(alloc),
+            tables: Names::new(alloc),
+            memories: Names::new(alloc),
+            globals: Names::new(alloc),
+        }
+    }
+
+    /// Whether a field binds a name that is bound in its space.
+    pub(crate) fn rebinds(&self, field: &Field<'_>) -> bool
+        ensures { result ≡ kept_rebinds self.now field.now }
+    {
+        match field {
+            Field::Type(field) => self.types.is_taken(field.name),
+            Field::Import(field) => match field.of {
+                ImportOf::Function(name, _) => self.functions.is_taken(name),
+                ImportOf::Memory(name, _) => self.memories.is_taken(name),
+            },
+            Field::Function(field) => self.functions.is_taken(field.name),
+            Field::Table(field) => self.tables.is_taken(field.name),
+            Field::Memory(field) => self.memories.is_taken(field.name),
+            Field::Global(field) => self.globals.is_taken(field.name),
+            _ => false,
+        }
+    }
+
+    /// With the identifier of an import behind them.
+    fn with_import(self, alloc: Global, of: &ImportOf<'a>) -> Result<Spaces<'a>, AllocError>
+        ensures { IfOk result (λ spaces. spaces ≡ import_with self.entry of.now) }
+    {
+        let Spaces {
+            types,
+            functions,
+            tables,
+            memories,
+            globals,
+        } = self;
+        match of {
+            ImportOf::Function(name, _) => {
+                let functions = functions.with(alloc, *name)?;
+                Ok(Spaces {
+                    types,
+                    functions,
+                    tables,
+                    memories,
+                    globals,
+                })
+            }
+            ImportOf::Memory(name, _) => {
+                let memories = memories.with(alloc, *name)?;
+                Ok(Spaces {
+                    types,
+                    functions,
+                    tables,
+                    memories,
+                    globals,
+                })
+            }
+        }
+    }
+
+    /// With the identifier of a field behind them, if it has one.
+    pub(crate) fn with(self, alloc: Global, field: &Field<'a>) -> Result<Spaces<'a>, AllocError>
+        ensures { IfOk result (λ spaces. spaces ≡ spaces_with self.entry field.now) }
+    {
+        if let Field::Import(field) = field {
+            return self.with_import(alloc, &field.of);
+        }
+        let Spaces {
+            types,
+            functions,
+            tables,
+            memories,
+            globals,
+        } = self;
+        match field {
+            Field::Type(field) => {
+                let types = types.with(alloc, field.name)?;
+                Ok(Spaces {
+                    types,
+                    functions,
+                    tables,
+                    memories,
+                    globals,
+                })
+            }
+            Field::Function(field) => {
+                let functions = functions.with(alloc, field.name)?;
+                Ok(Spaces {
+                    types,
+                    functions,
+                    tables,
+                    memories,
+                    globals,
+                })
+            }
+            Field::Table(field) => {
+                let tables = tables.with(alloc, field.name)?;
+                Ok(Spaces {
+                    types,
+                    functions,
+                    tables,
+                    memories,
+                    globals,
+                })
+            }
+            Field::Memory(field) => {
+                let memories = memories.with(alloc, field.name)?;
+                Ok(Spaces {
+                    types,
+                    functions,
+                    tables,
+                    memories,
+                    globals,
+                })
+            }
+            Field::Global(field) => {
+                let globals = globals.with(alloc, field.name)?;
+                Ok(Spaces {
+                    types,
+                    functions,
+                    tables,
+                    memories,
+                    globals,
+                })
+            }
+            _ => Ok(Spaces {
+                types,
+                functions,
+                tables,
+                memories,
+                globals,
+            }),
+        }
+    }
+}
+
+/// The identifiers of all fields.
+pub(crate) fn spaces_of<'a>(
+    alloc: Global,
+    fields: &[FieldInLine<'a>],
+) -> Result<Spaces<'a>, AllocError>
+    ensures { IfOk result (λ spaces. spaces ≡ spaces_of_kept no_names fields.now) }
+{
+    let mut spaces = Spaces::new(alloc);
+    for field in fields {
+        spaces = spaces.with(alloc, &field.field)?;
+    }
+    Ok(spaces)
+}
