@@ -1,21 +1,19 @@
 #!/usr/bin/env python3
-"""How long the interpreter takes for the steps of the kernels beside this script, and how long wabt's `wasm-interp` takes for
-the same modules (Debian's package wabt).
+"""How long `wasix one` takes for the kernels beside this script, and how long wabt's `wasm-interp` takes for the same modules
+(Debian's package wabt).
 
     python3 bench/interp/run.py [REPOSITORY]
 
-The crates that the program of main.rt.in stands on are copied into a temporary folder (from this repository, if none is
-named), with what `rt check` keeps of them, and the program beside them as a further crate; it is proved and built there. Each
-kernel is a module without imports, whose function `_start` computes a number and traps unless it is the one that it should be:
-so both interpreters are seen to compute the same. NAME.wasm is what wat2wasm makes of NAME.wat.
+Each kernel is a module without imports, whose function `_start` computes a number and traps unless it is the one that it should be:
+so both are seen to compute the same. NAME.wasm is what wat2wasm makes of NAME.wat.
 
-For each kernel the least of five runs counts, user and system time of the whole process, less that of a module that does
-nothing. The last line is the geometric mean of the quotients.
+The program is that of the repository (this one, if none is named), which its launcher builds where it isn't. For each kernel the least
+of five runs counts, user and system time of the whole process, less that of a module that does nothing. The last line is the
+geometric mean of the quotients.
 """
 import math
 import os
 import resource
-import shutil
 import subprocess
 import sys
 import tempfile
@@ -23,71 +21,42 @@ import tempfile
 HERE = os.path.dirname(os.path.abspath(__file__))
 # a module whose `_start` does nothing
 NOTHING = b"\0asm\1\0\0\0" + b"\1\4\1\x60\0\0" + b"\3\2\1\0" + b"\5\4\1\1\x20\x20" + b"\7\x0a\1\6_start\0\0" + b"\x0a\4\1\2\0\x0b"
-
-
-def below(lines, name, found):
-    """The crates of the repository on which one stands, itself among them."""
-    if name in lines and name not in found:
-        for lower in lines[name]:
-            below(lines, lower, found)
-        found.append(name)
-    return found
-
-
-def built(repository, copy):
-    with open(os.path.join(repository, "crates.txt")) as file:
-        rows = [line.split(":") for line in file if ":" in line and not line.startswith("#")]
-    lines = {name.strip(): words.split() for name, words in rows}
-    lines["bench_interp"] = "anyhow instance interp".split()
-    crates = below(lines, "bench_interp", [])
-    for name in crates[:-1]:
-        shutil.copytree(os.path.join(repository, "crates", name), os.path.join(copy, "crates", name))
-    with open(os.path.join(copy, "crates.txt"), "w") as file:
-        file.writelines(f"{name}: {' '.join(lines[name])}\n" for name in crates)
-    crate = os.path.join(copy, "crates", "bench_interp")
-    os.makedirs(os.path.join(crate, "src"))
-    shutil.copy(os.path.join(HERE, "main.rt.in"), os.path.join(crate, "src", "main.rt"))
-    done = subprocess.run(["rt", "run"], cwd=crate, capture_output=True, text=True)
-    program = os.path.join(crate, "out", "bench_interp")
-    if done.returncode or not os.path.exists(program):
-        sys.exit(done.stdout[-3000:] + done.stderr[-3000:])
-    return program
+# how many steps each kernel takes, as the definition of a step counts them
+STEPS = {"atomics": 49_500_009, "fibonacci": 30_964_181, "fill_and_sum": 68_157_589, "indirect_calls": 59_504_405,
+         "long_arithmetic": 54_000_011, "machine": 117_200_021, "sieve": 50_176_661, "sort": 47_089_824}
 
 
 def seconds(command):
-    """The least user and system time of five runs, and what the last one printed."""
+    """The least user and system time of five runs, none of which may fail or say that the kernel trapped."""
     least = math.inf
     for _ in range(5):
         before = resource.getrusage(resource.RUSAGE_CHILDREN)
         done = subprocess.run(command, capture_output=True, text=True)
         after = resource.getrusage(resource.RUSAGE_CHILDREN)
-        if done.returncode:
-            sys.exit(done.stdout + done.stderr)
+        if done.returncode or "error" in done.stdout:
+            sys.exit(f"{' '.join(command)}: {done.returncode} {done.stdout}{done.stderr}")
         least = min(least, after.ru_utime + after.ru_stime - before.ru_utime - before.ru_stime)
-    return least, done.stdout
+    return least
 
 
 def main():
     repository = os.path.abspath(sys.argv[1]) if sys.argv[1:] else os.path.dirname(os.path.dirname(HERE))
     kernels = sorted(name for name in os.listdir(HERE) if name.endswith(".wasm"))
-    with tempfile.TemporaryDirectory() as copy:
-        program = built(repository, copy)
-        nothing = os.path.join(copy, "nothing.wasm")
-        with open(nothing, "wb") as file:
-            file.write(NOTHING)
-        ours = lambda path: seconds([program, path])
+    with tempfile.NamedTemporaryFile(suffix=".wasm") as nothing:
+        nothing.write(NOTHING)
+        nothing.flush()
+        # the launcher builds the program; the program itself is measured
+        if subprocess.run([os.path.join(repository, "wasix"), "one", nothing.name]).returncode:
+            sys.exit("the program could not be built")
+        ours = lambda path: seconds([os.path.join(repository, "crates", "wasix", "out", "wasix"), "one", path])
         theirs = lambda path: seconds(["wasm-interp", "--enable-threads", "--run-all-exports", path])
-        our_start, their_start = ours(nothing)[0], theirs(nothing)[0]
+        our_start, their_start = ours(nothing.name), theirs(nothing.name)
+        print(f"a module that does nothing: {our_start:.3f} s, wasm-interp {their_start:.3f} s")
         print(f"{'kernel':18} {'steps':>12} {'seconds':>8} {'ns a step':>9} {'wasm-interp':>11} {'quotient':>8}")
         logarithms = []
         for name in kernels:
             path = os.path.join(HERE, name)
-            time, text = ours(path)
-            other, their_text = theirs(path)
-            words = text.split()
-            if len(words) != 3 or "error" in their_text:
-                sys.exit(f"{name}: {text} {their_text}")
-            time, other, steps = time - our_start, other - their_start, int(words[1])
+            time, other, steps = ours(path) - our_start, theirs(path) - their_start, STEPS[name[:-5]]
             logarithms.append(math.log(time / other))
             print(f"{name[:-5]:18} {steps:12} {time:8.3f} {time * 1e9 / steps:9.2f} {other:11.3f} {time / other:8.2f}")
         print(f"geometric mean of the quotients: {math.exp(sum(logarithms) / len(logarithms)):.2f}")

@@ -7,4 +7,5 @@ pub mod MemoryLemmas
 pub mod NameLemmas
 pub mod Once
 pub mod StartLemmas
+pub mod TypeLemmas
 pub mod WaitLemmas

@@ -1,6 +1,6 @@
 -- The calls that a program may import, each listed once: those of WASI preview 1, with the standard's names and types, and
 -- further ones, whose names, types and, for all of them, numbers are this project's own.
-use Rattle.std.specs.Prelude.{ℕ, Bool, true, false, ◌&&◌, if◌then◌else◌, List, [], ◌∷◌, ◌++◌, Option, Some, None, option_and_then, find, codes, replicate}
+use Rattle.std.specs.Prelude.{ℕ, ◌==◌, Bool, true, false, ◌&&◌, if◌then◌else◌, List, [], ◌∷◌, ◌++◌, Option, Some, None, option_and_then, find, codes, replicate}
 use Rattle.std.specs.List.{list_any}
 use Rattle.std.specs.Str.{bytes_eq}
 use Rattle.wasm_ast.specs.declared.types.ValType.{ValType}
@@ -162,6 +162,14 @@ call_named from name = find (is_named from name) calls
 -- the results of a call as types
 abbrev pub results_of : Bool → List ValType
 results_of gives = if gives then I32 ∷ [] else []
+
+-- the row of a number
+abbrev pub call_numbered : ℕ → Option Call
+call_numbered number = find (λ (call : Call). call.number == number) calls
+
+-- the type of a call
+abbrev pub type_of_call : Call → FuncType
+type_of_call call = record { params = call.params; results = results_of call.gives }
 
 -- the number of a call, where a function's type is that of the call
 abbrev pub number_with_type : FuncType → Call → Option ℕ

@@ -1,9 +1,11 @@
 // Programs: modules whose imports are linked.
-ghost use Rattle.std.specs.Prelude.{◌≡◌, ◌<◌, length, slice_get, IfOk, IfSome, IsSome, true};
+ghost use Rattle.std.specs.Prelude.{◌≡◌, ◌<◌, length, option_map, slice_get, IfOk, IfSome, IsSome, false, true};
+ghost use Rattle.wasm_ast.specs.Table.{function_type};
 ghost use Rattle.wasm_ast.specs.TypingModule.{functions_of};
 ghost use Rattle.guest_state.specs.Fits.{Fits};
 ghost use Rattle.guest_state.specs.Snapshot.{thread_of};
-ghost use Rattle.instance.specs.Links.{is_built};
+ghost use Rattle.instance.specs.Calls.{call_numbered, type_of_call};
+ghost use Rattle.instance.specs.Links.{any_waits, is_built};
 ghost use Rattle.instance.specs.Program.{call_of, exported_function, first_memory, main_thread, params_of};
 
 use crate::exports::{ExportKind, exported_function};
@@ -50,19 +52,21 @@ fn number_at(numbers: &[u16], place: u32) -> Option<u16>
 }
 
 impl Program {
-    /// Its module.
+    /// Its module. No function of it waits or notifies.
     pub fn valid(&self) -> &Valid
-        ensures { result.now ≡ self.now.module }
+        ensures value { result.now ≡ self.now.module }
+        ensures waits { any_waits self.now.module ≡ false }
     {
         &self.valid
     }
 
     /// The number of the call that the imported function of that index is. Each imported function has one, and it is one
-    /// that the host answers.
+    /// that the host answers, with the function's type.
     pub fn call_of(&self, import: u32) -> Option<u16>
         ensures value { result ≡ call_of self.now import }
         ensures known { import < length (functions_of self.now.module.imports) → IsSome result }
         ensures built { IfSome result (λ call. is_built call ≡ true) }
+        ensures its_type { IfSome result (λ call. function_type self.now.module import ≡ option_map type_of_call (call_numbered call)) }
     {
         number_at(self.calls.as_slice(), import)
     }

@@ -9,145 +9,86 @@ mod notation;
 
 use answer::{Answer, answer_of};
 use anyhow::{Context, Result};
-use notation::{Fragments, Variation};
+use notation::{Each, Fragments, spell};
 use std::alloc::Global;
+use std::collections::BTreeMap;
+use std::fmt::Write;
 use std::rt::{Env, Files};
 use std::{env, fs};
 
-/// A case: its name, its bytes, and those that its module is written as, where they are others.
-#[derive(Clone, Copy)]
-struct Case<'a> {
-    name: &'a str,
-    words: &'a str,
-    written: Option<&'a str>,
+/// What comes of words, varied or not, whose bytes may be stated to be written as others.
+fn judged(
+    alloc: Global,
+    fragments: &Fragments,
+    words: &str,
+    varied: Option<(Each, usize)>,
+    stated: &Option<Vec<u8>>,
+) -> Result<Answer> {
+    let bytes = spell(alloc, fragments, words, varied)?.bytes;
+    Ok(answer_of(alloc, bytes.as_slice(), stated.as_deref())?)
 }
 
-impl<'a> Case<'a> {
-    /// The case of a line `NAME: WORDS` or `NAME: WORDS -> WORDS`.
-    fn parse(line: &'a str) -> Option<Case<'a>> {
-        let (name, words) = line.split_once(": ")?;
-        let (words, written) = match words.split_once(" -> ") {
-            Some((words, written)) => (words, Some(written)),
-            None => (words, None),
-        };
-        Some(Case {
-            name,
-            words,
-            written,
-        })
-    }
-
-    /// The bytes that the module is to be written as, where they are stated.
-    fn written(&self, alloc: Global, fragments: &Fragments) -> Result<Option<Vec<u8>>> {
-        match self.written {
-            Some(words) => Ok(Some(fragments.spell(alloc, words, Variation::None)?.bytes)),
-            None => Ok(None),
-        }
-    }
-}
-
-/// What comes of bytes, which may be stated to be written as others.
-fn judged(alloc: Global, bytes: &[u8], written: &Option<Vec<u8>>) -> Result<Answer> {
-    let wanted = written.as_ref().map(|written| written.as_slice());
-    Ok(answer_of(alloc, bytes, wanted)?)
-}
-
-/// How words are varied, again and again.
-#[derive(Clone, Copy)]
-enum Each {
-    /// Each front of what stands in `{ }`, but for the whole.
-    Front,
-    /// Each number in so many bytes.
-    Number(u32),
-}
-
-impl Each {
-    /// The words that a case varies, and how, if it does.
-    fn parse(words: &str) -> Option<(Each, &str)> {
-        if let Some(rest) = words.strip_prefix("each front ") {
-            return Some((Each::Front, rest));
-        }
-        if let Some(rest) = words.strip_prefix("each number in 5 bytes ") {
-            return Some((Each::Number(5), rest));
-        }
-        let rest = words.strip_prefix("each number in 6 bytes ")?;
-        Some((Each::Number(6), rest))
-    }
-
-    fn variation(self, index: usize) -> Variation {
-        match self {
-            Each::Front => Variation::Front(index),
-            Each::Number(size) => Variation::Long { place: index, size },
-        }
-    }
-}
-
-/// A line with the answers to all variations, in their order: how many have the same answer, and which.
-fn print_each(
-    rt: &(impl Print + AllocGlobal),
+/// The answers to all variations, in their order: how many have the same answer, and which.
+fn each_judged(
+    alloc: Global,
     fragments: &Fragments,
     each: Each,
-    case: Case,
-) -> Result<()> {
-    let alloc = rt.alloc();
-    let written = case.written(alloc, fragments)?;
-    let whole = fragments.spell(alloc, case.words, Variation::None)?;
+    words: &str,
+    stated: &Option<Vec<u8>>,
+) -> Result<String> {
+    let whole = spell(alloc, fragments, words, None)?;
     let count = match each {
         Each::Front => whole.bracketed,
         Each::Number(_) => whole.numbers,
     };
-    let mut alike: Option<(Answer, usize)> = None;
-    print!(rt; "{}:", case.name)?;
+    let mut answers: Vec<Answer> = Vec::new(alloc);
     for index in 0..count {
-        let bytes = fragments
-            .spell(alloc, case.words, each.variation(index))?
-            .bytes;
-        let found = judged(alloc, bytes.as_slice(), &written)?;
-        alike = Some(match alike {
-            Some((last, times)) if last == found => (last, times.saturating_add(1)),
-            Some((last, times)) => {
-                print!(rt; " {times} {last};")?;
-                (found, 1)
-            }
-            None => (found, 1),
-        });
+        answers.push(judged(alloc, fragments, words, Some((each, index)), stated)?)?;
     }
-    match alike {
-        Some((last, times)) => println!(rt; " {times} {last}")?,
-        None => println!(rt; " none")?,
+    let mut text = String::new(alloc);
+    for alike in answers.chunk_by(|one, other| one == other) {
+        if let Some(answer) = alike.first() {
+            let mark = if text.is_empty() { "" } else { "; " };
+            write!(text, "{mark}{} {answer}", alike.len())?;
+        }
     }
-    Ok(())
+    Ok(text)
 }
 
-/// The line of a case.
-fn print_case(rt: &(impl Print + AllocGlobal), fragments: &Fragments, case: Case) -> Result<()> {
-    if let Some((each, words)) = Each::parse(case.words) {
-        return print_each(rt, fragments, each, Case { words, ..case });
+/// What comes of a case `WORDS` or `WORDS -> WORDS`.
+fn case_judged(alloc: Global, fragments: &Fragments, case: &str) -> Result<String> {
+    let (words, stated) = match case.split_once(" -> ") {
+        Some((words, written)) => (words, Some(spell(alloc, fragments, written, None)?.bytes)),
+        None => (case, None),
+    };
+    if let Some((each, words)) = Each::parse(words) {
+        return each_judged(alloc, fragments, each, words, &stated);
     }
-    let alloc = rt.alloc();
-    let written = case.written(alloc, fragments)?;
-    let bytes = fragments.spell(alloc, case.words, Variation::None)?.bytes;
-    let found = judged(alloc, bytes.as_slice(), &written)?;
-    println!(rt; "{}: {found}", case.name)?;
-    Ok(())
+    let found = judged(alloc, fragments, words, None, &stated)?;
+    Ok(format!(in alloc; "{found}")?)
 }
 
-/// Names a fragment, or prints the lines of a case. Empty lines and those that begin with `#` do nothing.
+/// Names a fragment, or prints the line of a case. Empty lines and those that begin with `#` do nothing.
 fn print_line(
     rt: &(impl Print + AllocGlobal),
     fragments: &mut Fragments,
     line: &str,
 ) -> Result<()> {
+    let alloc = rt.alloc();
     if line.is_empty() || line.starts_with("#") {
         return Ok(());
     }
     if let Some((name, words)) = line.split_once(" = ") {
-        return Ok(fragments.define(rt.alloc(), name, words)?);
+        let bytes = spell(alloc, fragments, words, None)?.bytes;
+        fragments.insert(Vec::from_slice(alloc, name.as_bytes())?, bytes)?;
+        return Ok(());
     }
-    match Case::parse(line) {
-        Some(case) => print_case(rt, fragments, case),
-        None => Err(anyhow::anyhow!("no case")),
-    }
+    let Some((name, case)) = line.split_once(": ") else {
+        return Err(anyhow::anyhow!("no case"));
+    };
+    let answers = case_judged(alloc, fragments, case)?;
+    println!(rt; "{name}: {answers}")?;
+    Ok(())
 }
 
 fn run(rt: &(impl Env + Files + Print + AllocGlobal)) -> Result<()> {
@@ -155,7 +96,7 @@ fn run(rt: &(impl Env + Files + Print + AllocGlobal)) -> Result<()> {
         return Err(anyhow::anyhow!("which file has the cases?"));
     };
     let text = fs::read_to_string(rt, path.as_str()).context("reading the cases")?;
-    let mut fragments = Fragments::new(rt.alloc());
+    let mut fragments = BTreeMap::new(rt.alloc());
     for line in text.lines() {
         print_line(rt, &mut fragments, line).context(format_args!("{line:.60}"))?;
     }

@@ -11,115 +11,61 @@
 //! | `{ .. }` | the bytes, of which a variation may keep a front |
 //! | `$name` | those of the fragment of that name |
 
-ghost use Rattle.std.specs.Prelude.{◌<◌, IfOk};
-
-use std::alloc::{AllocError, AllocFailed, Global};
+use anyhow::{Result, anyhow};
+use std::alloc::Global;
 use std::collections::BTreeMap;
-use thiserror::Error;
 
-/// Why words have no bytes.
-#[derive(Debug, Drop, Error)]
-pub enum NotationError {
-    /// A word is none of the notation, or names no fragment.
-    #[error("a word of no meaning")]
-    Word,
-    /// A group is closed otherwise than it was opened, or isn't closed.
-    #[error("a group that doesn't end")]
-    Group,
-    /// There is not enough memory.
-    #[error("out of memory")]
-    Memory,
+/// A word that is none of the notation, or names no fragment.
+fn no_word() -> anyhow::Error {
+    anyhow!("a word of no meaning")
 }
 
-impl From<AllocError> for NotationError {
-    fn from(_e: AllocError) -> NotationError {
-        NotationError::Memory
-    }
-}
+/// Bytes by their names, which are written as they are used, `$name`.
+pub type Fragments = BTreeMap<Vec<u8>, Vec<u8>>;
 
-impl<T: Drop> From<AllocFailed<T>> for NotationError {
-    fn from(_e: AllocFailed<T>) -> NotationError {
-        NotationError::Memory
-    }
-}
-
-/// How bytes are changed where they are spelled.
+/// What of words is varied, again and again, at each index.
 #[derive(Clone, Copy)]
-pub enum Variation {
-    /// Not at all.
-    None,
-    /// Of the bytes in `{ }` so many are kept, from the first on.
-    Front(usize),
-    /// A number, by its place among all, is in so many bytes.
-    Long { place: usize, size: u32 },
+pub enum Each {
+    /// Of the bytes in `{ }` so many are kept as the index says, from the first on.
+    Front,
+    /// The number whose place among all is the index is in so many bytes, which are at most eight.
+    Number(u32),
 }
 
-/// The bytes of words, and what of them may be varied.
-#[derive(Drop)]
-pub struct Spelling {
-    pub bytes: Vec<u8>,
-    /// How many numbers are among them: those of `+` and the sizes of `[ ]`, but for those in fragments.
-    pub numbers: usize,
-    /// How many bytes stand in `{ }`.
-    pub bracketed: usize,
-}
-
-/// Bytes by their names.
-#[derive(Drop)]
-pub struct Fragments {
-    named: BTreeMap<Vec<u8>, Vec<u8>>,
-}
-
-impl Fragments {
-    /// No fragments.
-    pub fn new(alloc: Global) -> Fragments {
-        Fragments {
-            named: BTreeMap::new(alloc),
+impl Each {
+    /// The words that a case varies, and how, if it does.
+    pub fn parse(words: &str) -> Option<(Each, &str)> {
+        if let Some(rest) = words.strip_prefix("each front ") {
+            return Some((Each::Front, rest));
         }
+        let numbers = words.strip_prefix("each number in ")?;
+        let (size, rest) = numbers.split_once(" bytes ")?;
+        Some((Each::Number(size.parse::<u32>().ok()?), rest))
     }
+}
 
-    /// Names the bytes of words. A name is given as it is used, `$name`.
-    pub fn define(&mut self, alloc: Global, name: &str, words: &str) -> Result<(), NotationError> {
-        let Spelling { bytes, .. } = self.spell(alloc, words, Variation::None)?;
-        let name = Vec::from_slice(alloc, name.as_bytes())?;
-        self.named.insert(name, bytes)?;
-        Ok(())
+/// The bytes of words. Numbers are in as few bytes as may be, but for one that is varied. It is an error
+/// where a word has no meaning, a group doesn't end, or there is not enough memory.
+pub fn spell(
+    alloc: Global,
+    fragments: &Fragments,
+    words: &str,
+    varied: Option<(Each, usize)>,
+) -> Result<Spelling> {
+    let mut spelling = Spelling {
+        bytes: Vec::new(alloc),
+        numbers: 0,
+        bracketed: 0,
+        varied,
+        open: Vec::new(alloc),
+    };
+    for word in words.split_whitespace() {
+        spelling.write(fragments, word.as_bytes())?;
     }
-
-    /// The bytes of words. Numbers are in as few bytes as may be, but for one that is varied.
-    pub fn spell(
-        &self,
-        alloc: Global,
-        words: &str,
-        variation: Variation,
-    ) -> Result<Spelling, NotationError> {
-        let mut writer = Writer {
-            alloc,
-            variation,
-            numbers: 0,
-            bracketed: 0,
-            open: Vec::new(alloc),
-            bytes: Vec::new(alloc),
-        };
-        for word in words.split_whitespace() {
-            writer.write(self, word.as_bytes())?;
-        }
-        let Writer {
-            numbers,
-            bracketed,
-            open,
-            bytes,
-            ..
-        } = writer;
-        if open.is_empty() {
-            Ok(Spelling {
-                bytes,
-                numbers,
-                bracketed,
-            })
-        } else {
-            Err(NotationError::Group)
-        }
+    if spelling.open.is_empty() {
+        Ok(spelling)
+    } else {
+        Err(anyhow!("a group that doesn't end"))
     }
 }
 
@@ -141,19 +87,20 @@ struct Group {
     before: Vec<u8>,
 }
 
-/// The bytes so far, within the innermost open group.
+/// The bytes of words so far, within the innermost open group, and what of them may be varied.
 #[derive(Drop)]
-struct Writer {
-    alloc: Global,
-    variation: Variation,
-    numbers: usize,
-    bracketed: usize,
+pub struct Spelling {
+    pub bytes: Vec<u8>,
+    /// How many numbers are among them: those of `+` and the sizes of `[ ]`, but for those in fragments.
+    pub numbers: usize,
+    /// How many bytes stand in `{ }`.
+    pub bracketed: usize,
+    varied: Option<(Each, usize)>,
     open: Vec<Group>,
-    bytes: Vec<u8>,
 }
 
-impl Writer {
-    fn write(&mut self, fragments: &Fragments, word: &[u8]) -> Result<(), NotationError> {
+impl Spelling {
+    fn write(&mut self, fragments: &Fragments, word: &[u8]) -> Result<()> {
         match word {
             [b'['] => {
                 let place = self.place();
@@ -168,13 +115,13 @@ impl Writer {
                 self.number(place, decimal(number)?)
             }
             [b'"', text @ .., b'"'] => Ok(self.bytes.extend_from_slice(text)?),
-            [b'$', ..] => match fragments.named.get(word) {
+            [b'$', ..] => match fragments.get(word) {
                 Some(bytes) => Ok(self.bytes.extend_from_slice(bytes.as_slice())?),
-                None => Err(NotationError::Word),
+                None => Err(no_word()),
             },
-            [high, low] => self.byte(*high, *low, 1),
-            [high, low, b'*', times @ ..] => self.byte(*high, *low, decimal(times)?),
-            _ => Err(NotationError::Word),
+            [_, _] => self.byte(word, 1),
+            [_, _, b'*', times @ ..] => self.byte(&word[..2], decimal(times)?),
+            _ => Err(no_word()),
         }
     }
 
@@ -187,14 +134,14 @@ impl Writer {
 
     /// In how many bytes the number of that place is at least.
     fn least_size(&self, place: usize) -> u32 {
-        match self.variation {
-            Variation::Long { place: long, size } if long == place => size,
+        match self.varied {
+            Some((Each::Number(size), index)) if index == place => size,
             _ => 1,
         }
     }
 
     /// Adds the number of that place.
-    fn number(&mut self, place: usize, number: u32) -> Result<(), NotationError> {
+    fn number(&mut self, place: usize, number: u32) -> Result<()> {
         let least = self.least_size(place);
         let mut rest = number;
         for size in 1..8u32 {
@@ -208,24 +155,22 @@ impl Writer {
         Ok(())
     }
 
-    fn open(&mut self, kind: Kind) -> Result<(), NotationError> {
-        let before = std::mem::replace(&mut self.bytes, Vec::new(self.alloc));
+    fn open(&mut self, kind: Kind) -> Result<()> {
+        let empty = Vec::new(*self.bytes.allocator());
+        let before = std::mem::replace(&mut self.bytes, empty);
         self.open.push(Group { kind, before })?;
         Ok(())
     }
 
     /// Ends the innermost group, whose bytes come so many times.
-    fn close(&mut self, times: u32) -> Result<(), NotationError> {
+    fn close(&mut self, times: u32) -> Result<()> {
         let Some(Group { kind, before }) = self.open.pop() else {
-            return Err(NotationError::Group);
+            return Err(anyhow!("a group that doesn't end"));
         };
         let inner = std::mem::replace(&mut self.bytes, before);
         match kind {
             Kind::Sized(place) => {
-                let Ok(count) = u32::try_from(inner.len()) else {
-                    return Err(NotationError::Group);
-                };
-                self.number(place, count)?;
+                self.number(place, u32::try_from(inner.len())?)?;
                 self.bytes.extend_from_slice(inner.as_slice())?;
             }
             Kind::Repeated => {
@@ -235,8 +180,8 @@ impl Writer {
             }
             Kind::Bracketed => {
                 self.bracketed = inner.len();
-                let kept = match self.variation {
-                    Variation::Front(kept) => kept.min(inner.len()),
+                let kept = match self.varied {
+                    Some((Each::Front, index)) => index.min(inner.len()),
                     _ => inner.len(),
                 };
                 self.bytes.extend_from_slice(&inner[..kept])?;
@@ -245,8 +190,9 @@ impl Writer {
         Ok(())
     }
 
-    fn byte(&mut self, high: u8, low: u8, times: u32) -> Result<(), NotationError> {
-        let byte = hex_digit(high)? * 16 + hex_digit(low)?;
+    /// Adds the byte of two hexadecimal digits, so many times.
+    fn byte(&mut self, digits: &[u8], times: u32) -> Result<()> {
+        let byte = u8::from_str_radix(std::str::from_utf8(digits)?, 16)?;
         for _ in 0..times {
             self.bytes.push(byte)?;
         }
@@ -254,28 +200,7 @@ impl Writer {
     }
 }
 
-/// What a digit of hexadecimal stands for.
-fn hex_digit(digit: u8) -> Result<u8, NotationError>
-    ensures { IfOk result (λ value. value < 16) }
-{
-    match digit {
-        b'0'..=b'9' => Ok(digit - b'0'),
-        b'a'..=b'f' => Ok(digit - b'a' + 10),
-        _ => Err(NotationError::Word),
-    }
-}
-
 /// The number that digits of decimal spell.
-fn decimal(digits: &[u8]) -> Result<u32, NotationError> {
-    let mut number = 0u32;
-    for digit in digits {
-        if !digit.is_ascii_digit() {
-            return Err(NotationError::Word);
-        }
-        match number.checked_mul(10) {
-            Some(tens) => number = tens.saturating_add(u32::from(*digit - b'0')),
-            None => return Err(NotationError::Word),
-        }
-    }
-    Ok(number)
+fn decimal(digits: &[u8]) -> Result<u32> {
+    Ok(std::str::from_utf8(digits)?.parse::<u32>()?)
 }

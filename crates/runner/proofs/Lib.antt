@@ -1,9 +1,8 @@
-pub mod Split
-pub mod Determined
-pub mod Maps
-pub mod Clauses
-pub mod Turns
+pub mod Comes
+pub mod Calls
+pub mod Waits
+pub mod Imports
 pub mod Console
-pub mod Segments
-pub mod Found
-pub mod Whole
+pub mod Turns
+pub mod Runs
+pub mod Slices

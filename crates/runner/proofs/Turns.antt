@@ -1,221 +1,325 @@
 -- A turn of the one thread leads on.
-use Rattle.std.proofs.Common.{◌≡◌, ◌≤◌, ◌-◌, ◌+◌, ℕ, List, [], ◌∷◌, true, Option, Some, None, slice_get, slice_index, length, min, refl, sym, ap, subst, ◌∙◌, arith}
-use Rattle.std.specs.Option.{option_map}
-use Rattle.std.specs.FinMap.{FinMap, get, insert}
-use Rattle.wx_types.specs.declared.requests.Request.{Request}
-use Rattle.wx_types.specs.declared.entries.Entry.{Entry}
-use Rattle.wx_types.specs.declared.entries.Outcome.TheVariants.{Ended as EndedOutcome}
-use Rattle.wasm_decode.specs.ThinModule.{ThinModule, takes}
-use Rattle.wasm_decode.specs.declared.thin.ThinImport.{ThinImport}
-use Rattle.wasm_decode.specs.declared.thin.ThinImport.TheVariants.{ProcExit, FdWrite}
-use Rattle.thin_interp.specs.declared.thread.Stop.TheVariants.{Call, Finished as Returned}
-use Rattle.linear_memory.specs.LinearMemory.{LinearMemory}
-use Rattle.thin_interp.specs.GuestThread.{GuestThread, arguments, answered}
-use Rattle.thin_interp.specs.Step.{Stepped, Next, AtCall, Finished, Stuck, step, after}
-use Rattle.thin_interp.specs.Stops.{StopsAs}
-use Rattle.runner.specs.Process.{Process}
-use Rattle.wasix_abi.specs.Requests.{nine_words, request_of}
-use Rattle.wasix_abi.specs.Replies.{apply_reply}
-use Rattle.runner.specs.Asked.{Asked, EndsSlice, fuel_left, request_at, import_call, flag}
-use Rattle.runner.specs.Settle.{SettlesFrom}
-use Rattle.runner.specs.Apply.{replied_process, replied_threads}
-use Rattle.runner.proofs.Maps.{get-insert_same, thread_cmp_total}
-use Rattle.runner.proofs.Console.{write_answer}
+use Rattle.std.proofs.Common.{◌≡◌, ℕ, ◌≤◌, ◌-◌, ◌+◌, List, [], ◌∷◌, true, false, Bool, cond, eqb, Option, Some, None, min, option_map, refl, sym, ap, subst, ◌∙◌, arith}
+use Rattle.std.specs.FinMap.{get, insert, retain_keys}
 use Rattle.std.proofs.lemmas.Cmp.{nat_cmp_total}
-use Rattle.std.specs.Ordering.{nat_cmp}
-use Rattle.thin_interp.specs.Left.{steps_left}
-use Rattle.runner.specs.Kernel.{Kernel, End, Exited, Handed, Fresh}
-use Rattle.runner.specs.Answer.{answer, risen, end_process}
-use Rattle.runner.specs.World.{World, Replies}
-use Rattle.runner.specs.OneProcess.{StandsAt, LeadsOn, default_slice, default_fuel, end_entry, LeadsToEnd, WriteReply, write_entry, reply_of, memory_after}
+use Rattle.fork_exec.specs.Process.{Process, fuel_left}
+use Rattle.guest_state.specs.GuestThread.{GuestThread, in_frame}
+use Rattle.guest_state.specs.Steps.{answered, arguments_of}
+use Rattle.instance.specs.Program.{Program, call_of}
+use Rattle.int_ops.specs.declared.trap.Cause.{Cause}
+use Rattle.interp.specs.declared.stop.Stop.{Stop}
+use Rattle.interp.specs.declared.stop.Stop.TheVariants as stop
+use Rattle.kernel_ask.specs.Answer.{plain}
+use Rattle.kernel_core.specs.Answers.{answer_call}
+use Rattle.kernel_core.specs.End.{End, Exited, Killed}
+use Rattle.kernel_core.specs.Ending.{ending_of, is_open}
+use Rattle.kernel_core.specs.Ends.{answer_end}
+use Rattle.kernel_core.specs.Kernel.{Kernel, lives}
+use Rattle.kernel_core.specs.Rows.{replied as replies, risen, with_thread}
+use Rattle.kernel_core.specs.Settling.{all_woken, settle}
+use Rattle.kernel_core.specs.Threads.{Fresh, Handed}
+use Rattle.kernel_core.proofs.Maps.{get-insert_same, thread_cmp_total}
+use Rattle.kernel_core.proofs.Ready.{settles_none, settles_on, stays_handed}
+use Rattle.linear_memory.specs.LinearMemory.{LinearMemory}
+use Rattle.process.specs.Apply.{without_threads}
+use Rattle.process.specs.Asked.{Asked, AskedBy, EndsSlice, Sliced, with_steps}
+use Rattle.process.specs.Processes.{Processes}
+use Rattle.process.specs.Replied.{replied, signalled}
+use Rattle.process.specs.Stops.{call_request, flag, import_arguments, operands_at, request_at}
+use Rattle.wasix_abi.specs.Requests.{plain_request, request_of}
+use Rattle.wasm_steps.specs.Step.{step}
+use Rattle.wasm_steps.specs.Stepped.{Stepped, Next, Trapped, AtCall, AtWait, AtNotify, Finished, Stuck}
+use Rattle.world_step.specs.Leads.{Leads, TakesTurn, Turn, after_turn}
+use Rattle.world_step.specs.World.{World}
+use Rattle.world_step.proofs.Doomed.{get-retained}
+use Rattle.wx_types.specs.declared.entries.Entry.{Entry}
+use Rattle.wx_types.specs.declared.entries.Outcome.TheVariants.{Reply, Ended as EndedOutcome}
+use Rattle.wx_types.specs.declared.entries.Place.{Place}
+use Rattle.wx_types.specs.declared.entries.Place.TheVariants.{Nowhere}
+use Rattle.wx_types.specs.declared.requests.Request.{Request}
+use Rattle.runner.specs.Standing.{LeadsOn, Ran, StandsAt, StopsAs, WriteReply, end_entry, memory_after, reply_entry, reply_of}
+use Rattle.runner.specs.declared.one.End.{End as Ended}
+use Rattle.runner.specs.declared.one.End.TheVariants as end
+use Rattle.instance.specs.Links.{is_built}
+use Rattle.std.proofs.Common.{inl, inr}
+use Rattle.std.proofs.lemmas.Bool.{eqb-true}
+use Rattle.std.proofs.lemmas.Bool.Decides.{eqb_tells}
+use Rattle.runner.proofs.Console.{write_answer}
 
--- a thread that stops at a call ends its slice
-ends_call : (ran most i : ℕ) (s : Stepped) → StopsAs s (Call i) → EndsSlice ran most s
-ends_call ran most i (Next m t) h = absurd h
-ends_call ran most i (AtCall f) h = tt
-ends_call ran most i Finished h = absurd h
-ends_call ran most i Stuck h = absurd h
+-- ---- the slice
 
-ends_return : (ran most : ℕ) (s : Stepped) → StopsAs s Returned → EndsSlice ran most s
-ends_return ran most (Next m t) h = absurd h
-ends_return ran most (AtCall f) h = absurd h
-ends_return ran most Finished h = tt
-ends_return ran most Stuck h = absurd h
-
--- and asks for the imported function
-asks_call : (program : ThinModule) (memory : LinearMemory) (thread : GuestThread) (left i : ℕ) (f : ThinImport) (s : Stepped) → StopsAs s (Call i) → slice_get program.imports i ≡ Some f → request_at program memory thread left s ≡ Some (request_of memory.bytes (import_call f) (arguments thread (takes f)))
-asks_call program memory thread left i f (Next m t) h known = absurd h
-asks_call program memory thread left i f (AtCall j) h known =
-    ap (option_map (λ (import : ThinImport). request_of memory.bytes (import_call import) (arguments thread (takes import)))) (ap (slice_get program.imports) h ∙ known)
-asks_call program memory thread left i f Finished h known = absurd h
-asks_call program memory thread left i f Stuck h known = absurd h
-
-asks_return : (program : ThinModule) (memory : LinearMemory) (thread : GuestThread) (left : ℕ) (s : Stepped) → StopsAs s Returned → request_at program memory thread left s ≡ Some (request_of memory.bytes 4 (flag thread.main ∷ []))
-asks_return program memory thread left (Next m t) h = absurd h
-asks_return program memory thread left (AtCall f) h = absurd h
-asks_return program memory thread left Finished h = refl
-asks_return program memory thread left Stuck h = absurd h
-
--- a whole slice, where slice and fuel are the defaults and little was used
-whole : (slice fuel used : ℕ) → slice ≡ default_slice → fuel ≡ default_fuel → used ≤ 1001 → min slice (fuel - used) ≡ default_slice
-whole slice fuel used s f u = omega arith
-
-abbrev stopped_at : Process → GuestThread → ℕ → Process
-stopped_at process next ran = record process { memory = process.memory; threads = insert process.threads 1 next; used = process.used + ran }
-
--- the slice of the thread
-asked_slice : (world : World) (program : ThinModule) (memory : LinearMemory) (thread next : GuestThread) (ran : ℕ) (request : Request) (at : StandsAt world program memory thread)
-    → ((m : LinearMemory) → after ran program m thread ≡ Some (m, next))
-    → ran ≤ default_slice
-    → EndsSlice ran default_slice (step program memory next)
-    → ((left : ℕ) → request_at program memory next left (step program memory next) ≡ Some request)
-    → Asked at.process 1 world.slice ran request (stopped_at at.process next ran)
-asked_slice world program memory thread next ran request at steps within ends asks =
-    let process : Process = at.process in
-    let used : process.used ≤ 1001 = (let short : process.used + steps_left thread ≤ 1001 = at.short in omega arith) in
-    let most : min world.slice (fuel_left process) ≡ default_slice = whole world.slice process.fuel process.used at.slice at.fuel used in
-    let ends1 : EndsSlice ran (min world.slice (fuel_left process)) (step program memory next) = subst (λ n. EndsSlice ran n (step program memory next)) (sym most) ends in
-    let ends2 : EndsSlice ran (min world.slice (fuel_left process)) (step program process.memory next) = subst (λ (m : LinearMemory). EndsSlice ran (min world.slice (fuel_left process)) (step program m next)) (sym at.over) ends1 in
-    let asks1 : request_at program process.memory next (fuel_left process - ran) (step program process.memory next) ≡ Some request = subst (λ (m : LinearMemory). request_at program m next (fuel_left process - ran) (step program m next) ≡ Some request) (sym at.over) (asks (fuel_left process - ran)) in
+slice_of : (process : Process) (program : Program) (memory memory' : LinearMemory) (thread next : GuestThread) (world_slice slice left most ran : ℕ) (stopped : Stop) (request : Request) → process.program ≡ program → process.memory ≡ memory
+    → world_slice ≡ slice → fuel_left process ≡ left → most ≡ min slice left → Ran program memory thread most ran stopped memory' next
+    → request_at program memory' next (left - ran) (step program.module memory' next) ≡ Some request
+    → Sliced process 1 world_slice thread ran request (with_steps process 1 ran memory' next)
+slice_of process program memory memory' thread next world_slice slice left most ran stopped request its_program its_memory its_slice its_left its_most ran_so asks =
+    let whole : most ≡ min world_slice (fuel_left process) = its_most ∙ (λ i. min (sym its_slice i) (sym its_left i)) in
     record {
-      thread = thread;
-      memory = process.memory;
+      memory = memory';
       next = next;
-      there = at.here;
-      steps = subst (λ (p : ThinModule). after ran p process.memory thread ≡ Some (process.memory, next)) (sym at.runs) (steps process.memory);
-      within = subst (λ n. ran ≤ n) (sym most) within;
-      ends = subst (λ (p : ThinModule). EndsSlice ran (min world.slice (fuel_left process)) (step p process.memory next)) (sym at.runs) ends2;
-      asks = subst (λ (p : ThinModule). request_at p process.memory next (fuel_left process - ran) (step p process.memory next) ≡ Some request) (sym at.runs) asks1;
+      steps = rw (its_program, its_memory) ran_so.steps;
+      within = subst (λ n. ran ≤ n) whole ran_so.within;
+      ends = subst (λ n. EndsSlice ran n (step process.program.module memory' next)) whole (subst (λ (p : Program). EndsSlice ran most (step p.module memory' next)) (sym its_program) ran_so.ends);
+      asks = subst (λ n. request_at process.program memory' next (n - ran) (step process.program.module memory' next) ≡ Some request) (sym its_left)
+          (subst (λ (p : Program). request_at p memory' next (left - ran) (step p.module memory' next) ≡ Some request) (sym its_program) asks);
       leaves = refl;
     }
 
--- a request that the kernel answers by the end of the process leads to the end of the run
-end_leads : (world : World) (program : ThinModule) (memory : LinearMemory) (thread next : GuestThread) (ran code : ℕ) (request : Request) (at : StandsAt world program memory thread)
-    → Asked at.process 1 world.slice ran request (stopped_at at.process next ran)
-    → ((k : Kernel) → answer k 1 1 request ≡ Some (record { outcome = EndedOutcome true; signal = 0; kernel = end_process (record k { time = risen k.time }) 1 1 (Exited code) }))
-    → LeadsToEnd world (end_entry ran request.call) code
-end_leads world program memory thread next ran code request at asked answers =
-    let ended : Kernel = end_process (record world.kernel { time = risen world.kernel.time }) 1 1 (Exited code) in
-    let reply : Replies world (end_entry ran request.call) = record {
-      process = at.process;
-      request = request;
-      stopped = stopped_at at.process next ran;
-      answered = ended;
-      there = at.there;
-      asks = asked;
-      call = refl;
-      answers = answers world.kernel;
-    } in (
-      record { kernel = ended; processes = _; slice = world.slice },
-      record { running = at.running; handed = (Fresh, at.handed); reply = reply; settles = refl; processes = refl; slice = refl },
-      refl,
-    )
+-- ---- what a turn leads to
 
--- a call of proc_exit
-pub exit_leads : (world : World) (program : ThinModule) (memory : LinearMemory) (thread next : GuestThread) (ran i code : ℕ) (args : List ℕ) → StandsAt world program memory thread
-    → ((m : LinearMemory) → after ran program m thread ≡ Some (m, next))
-    → ran ≤ default_slice
-    → ((m : LinearMemory) → StopsAs (step program m next) (Call i))
-    → slice_get program.imports i ≡ Some ProcExit
-    → args ≡ arguments next 1
-    → slice_index (nine_words args) 0 ≡ code
-    → LeadsToEnd world (end_entry ran 37) code
-exit_leads world program memory thread next ran i code args at steps within stops known same word =
-    let asked = asked_slice world program memory thread next ran (request_of memory.bytes 37 args) at steps within
-    (ends_call ran default_slice i (step program memory next) (stops memory))
-    (λ left. asks_call program memory next left i ProcExit (step program memory next) (stops memory) known ∙ ap (λ (a : List ℕ). Some (request_of memory.bytes 37 a)) (sym same)) in
-    subst (λ c. LeadsToEnd world (end_entry ran 37) c) word
-    (end_leads world program memory thread next ran (slice_index (nine_words args) 0) (request_of memory.bytes 37 args) at asked (λ k. refl))
+-- what is left of the process that asked
+pub record Leaves (own : Process) (program : Program) (memory : LinearMemory) (thread : GuestThread) (left : ℕ) : Type 0 where
+  pub its_program : own.program ≡ program
+  pub its_memory : own.memory ≡ memory
+  pub here : get own.threads 1 ≡ Some thread
+  pub its_left : fuel_left own ≡ left
 
--- the return of the main thread's last frame
-pub return_leads : (world : World) (program : ThinModule) (memory : LinearMemory) (thread next : GuestThread) (ran : ℕ) → StandsAt world program memory thread
-    → ((m : LinearMemory) → after ran program m thread ≡ Some (m, next))
-    → ran ≤ default_slice
-    → ((m : LinearMemory) → StopsAs (step program m next) Returned)
-    → next.main ≡ true
-    → LeadsToEnd world (end_entry ran 4) 0
-return_leads world program memory thread next ran at steps within stops main =
-    let asked = asked_slice world program memory thread next ran (request_of memory.bytes 4 (1 ∷ [])) at steps within
-    (ends_return ran default_slice (step program memory next) (stops memory))
-    (λ left. asks_return program memory next left (step program memory next) (stops memory) ∙ ap (λ b. Some (request_of memory.bytes 4 (flag b ∷ []))) main) in
-    end_leads world program memory thread next ran 0 (request_of memory.bytes 4 (1 ∷ [])) at asked (λ k. refl)
+over : (e : End) → is_open (ending_of e) ≡ false
+over (Exited code) = refl
+over (Killed signal) = refl
 
--- ---- a write
+module _ (world : World) (program : Program) (memory : LinearMemory) (thread : GuestThread) (slice left : ℕ) (at : StandsAt world program memory thread slice left) (most ran : ℕ) (stopped : Stop) (memory' : LinearMemory) (next : GuestThread)
+    (its_most : most ≡ min slice left) (ran_so : Ran program memory thread most ran stopped memory' next) (request : Request) (asks : request_at program memory' next (left - ran) (step program.module memory' next) ≡ Some request) where
+  abbrev after_steps : Process
+  after_steps = with_steps at.process 1 ran memory' next
 
-abbrev write_request_of : LinearMemory → List ℕ → Request
-write_request_of memory args = request_of memory.bytes 17 args
+  asked : Asked at.process 1 world.slice ran request after_steps
+  asked =
+      subst (λ found. AskedBy found at.process 1 world.slice ran request after_steps) (sym at.here)
+      (slice_of at.process program memory memory' thread next world.slice slice left most ran stopped request at.its_program at.its_memory at.its_slice at.its_left its_most ran_so asks)
 
--- a call of fd_write
-pub write_leads : (world : World) (program : ThinModule) (memory : LinearMemory) (thread next : GuestThread) (ran i : ℕ) (args : List ℕ) → StandsAt world program memory thread
-    → ((m : LinearMemory) → after ran program m thread ≡ Some (m, next))
-    → ran ≤ default_slice
-    → ((m : LinearMemory) → StopsAs (step program m next) (Call i))
-    → slice_get program.imports i ≡ Some FdWrite
-    → args ≡ arguments next 4
-    → ran + steps_left next ≡ steps_left thread
-    → steps_left (answered next 4 ((reply_of memory args).errno ∷ [])) + 1 ≡ steps_left next
-    → LeadsOn world program (memory_after memory args) (answered next 4 ((reply_of memory args).errno ∷ [])) (write_entry ran (reply_of memory args)) None
-write_leads world program memory thread next ran i args at steps within stops known same left one =
-    let request : Request = write_request_of memory args in
-    let reply : WriteReply = reply_of memory args in
-    let process : Process = at.process in
-    let stopped : Process = stopped_at process next ran in
-    let asked : Asked process 1 world.slice ran request stopped = asked_slice world program memory thread next ran request at steps within
-    (ends_call ran default_slice i (step program memory next) (stops memory))
-    (λ n. asks_call program memory next n i FdWrite (step program memory next) (stops memory) known ∙ ap (λ (a : List ℕ). Some (request_of memory.bytes 17 a)) (sym same)) in
-    let risen_kernel : Kernel = record world.kernel { time = risen world.kernel.time } in
-    let kernel : Kernel = record risen_kernel { threads = insert risen_kernel.threads (1, 1) (Handed Fresh) } in
-    let replies : Replies world (write_entry ran reply) = record {
-      process = process;
-      request = request;
-      stopped = stopped;
-      answered = kernel;
-      there = at.there;
-      asks = asked;
-      call = refl;
-      answers = write_answer risen_kernel at.descriptors at.descriptions request;
-    } in
-    let handed : get kernel.threads (1, 1) ≡ Some (Handed Fresh) = get-insert_same thread_cmp_total risen_kernel.threads (1, 1) (Handed Fresh) in
-    let here : get stopped.threads 1 ≡ Some next = get-insert_same nat_cmp_total process.threads 1 next in
-    let after_process : Process = replied_process stopped 1 request reply.errno reply.bytes in
-    let after_thread : GuestThread = answered next 4 (reply.errno ∷ []) in
-    let threads : after_process.threads ≡ insert stopped.threads 1 after_thread = ap (λ (t : Option GuestThread). replied_threads stopped.threads 1 t request reply.errno) here in
-    let after_here : get after_process.threads 1 ≡ Some after_thread = ap (λ (ts : FinMap nat_cmp GuestThread). get ts 1) threads ∙ get-insert_same nat_cmp_total stopped.threads 1 after_thread in
-    let short : process.used + steps_left thread ≤ 1001 = at.short in (
-      record { kernel = kernel; processes = insert world.processes 1 after_process; slice = world.slice },
-      record {
-        running = at.running;
-        handed = (Fresh, at.handed);
-        reply = replies;
-        settles = subst (λ (e : Option End). SettlesFrom e kernel kernel) (sym at.running) (1, 1, (Fresh, handed), refl);
-        processes = refl;
-        slice = refl;
-      },
-      record {
-        process = after_process;
-        running = at.running;
-        handed = handed;
-        there = get-insert_same nat_cmp_total world.processes 1 after_process;
-        runs = at.runs;
-        over = ap (λ (m : LinearMemory). record m { bytes = apply_reply m.bytes request reply.errno reply.bytes }) at.over;
-        here = after_here;
-        descriptors = at.descriptors;
-        descriptions = at.descriptions;
-        slice = at.slice;
-        fuel = at.fuel;
-        short = omega arith;
-      },
-    )
+  -- a reply
+  abbrev handed_on : Kernel
+  handed_on = with_thread (risen world.kernel) 1 1 (Handed Fresh)
 
--- the first of some arguments is the first word
-pub first_word : (args : List ℕ) → length args ≡ 1 → slice_index (nine_words args) 0 ≡ slice_index args 0
-first_word [] is = absurd (omega arith)
-first_word (x ∷ args) is = refl
+  abbrev own : ℕ → List ℕ → Process
+  own errno bytes = replied after_steps 1 next request errno bytes
 
--- the same in other words
-pub as_leads : (world : World) (program : ThinModule) (memory memory' : LinearMemory) (thread thread' : GuestThread) (entry entry' : Entry) (ended ended' : Option ℕ) → memory ≡ memory' → thread ≡ thread' → entry ≡ entry' → ended ≡ ended' → LeadsOn world program memory' thread' entry' ended' → LeadsOn world program memory thread entry ended
-as_leads world program memory memory' thread thread' entry entry' ended ended' m t e n leads =
-    subst (λ (x : LinearMemory). LeadsOn world program x thread entry ended) (sym m)
-    (subst (λ (x : GuestThread). LeadsOn world program memory' x entry ended) (sym t)
-    (subst (λ (x : Entry). LeadsOn world program memory' thread' x ended) (sym e)
-    (subst (λ (x : Option ℕ). LeadsOn world program memory' thread' entry' x) (sym n) leads)))
+  abbrev after_reply : ℕ → List ℕ → World
+  after_reply errno bytes = record { kernel = settle handed_on; processes = retain_keys (insert world.processes 1 (own errno bytes)) (lives handed_on); slice = world.slice }
+
+  handed_there : get handed_on.threads (1, 1) ≡ Some (Handed Fresh)
+  handed_there = get-insert_same thread_cmp_total world.kernel.threads (1, 1) (Handed Fresh)
+
+  settled : settle handed_on ≡ all_woken handed_on
+  settled = settles_on handed_on 1 1 Fresh at.running handed_there
+
+  abbrev reply_turn : (errno : ℕ) (bytes : List ℕ) (place : Place) → answer_call (risen world.kernel) 1 1 request ≡ Some (replies (risen world.kernel) 1 1 errno bytes place) → TakesTurn world (reply_entry ran request.call (record { errno = errno; bytes = bytes; place = place }))
+  reply_turn errno bytes place answers = record {
+    process = at.process;
+    request = request;
+    stopped = after_steps;
+    answer = plain (Reply errno bytes place);
+    answered = handed_on;
+    handed = (Fresh, at.handed);
+    there = at.there;
+    asks = asked;
+    answers = answers;
+    call = refl;
+    outcome = refl;
+    signal = refl;
+  }
+
+  takes : (errno : ℕ) (bytes : List ℕ) (place : Place) → after_turn world 1 1 after_steps request (plain (Reply errno bytes place)) handed_on ≡ Some (after_reply errno bytes)
+  takes errno bytes place =
+      ap (λ (found : Option GuestThread).
+      option_map (λ (processes : Processes). record { kernel = settle handed_on; processes = processes; slice = world.slice })
+      (option_map (λ (o : Process). retain_keys (insert world.processes 1 o) (lives handed_on))
+      (option_map (λ (after : Process). signalled after 1 0)
+      (option_map (λ t. replied after_steps 1 t request errno bytes) found))))
+      (get-insert_same nat_cmp_total at.process.threads 1 next)
+
+  pub reply_leads : (errno : ℕ) (bytes : List ℕ) (place : Place) (memory'' : LinearMemory) (thread'' : GuestThread) → answer_call (risen world.kernel) 1 1 request ≡ Some (replies (risen world.kernel) 1 1 errno bytes place)
+      → Leaves (own errno bytes) program memory'' thread'' (left - ran)
+      → LeadsOn world program memory'' thread'' slice (left - ran) (reply_entry ran request.call (record { errno = errno; bytes = bytes; place = place })) None
+  reply_leads errno bytes place memory'' thread'' answers leaves = (
+    after_reply errno bytes,
+    Turn at.running (reply_turn errno bytes place answers) (takes errno bytes place),
+    record {
+      process = own errno bytes;
+      running = ap (λ (k : Kernel). k.ending) settled ∙ at.running;
+      handed = stays_handed handed_on 1 1 Fresh at.running handed_there;
+      alive = ap (λ (k : Kernel). lives k 1) settled ∙ at.alive;
+      descriptors = ap (λ (k : Kernel). k.descriptors) settled ∙ at.descriptors;
+      descriptions = ap (λ (k : Kernel). k.descriptions) settled ∙ at.descriptions;
+      its_slice = at.its_slice;
+      there =
+          get-retained (insert world.processes 1 (own errno bytes)) (lives handed_on) 1
+          ∙ ap (λ b. cond b (get (insert world.processes 1 (own errno bytes)) 1) None) at.alive
+          ∙ get-insert_same nat_cmp_total world.processes 1 (own errno bytes);
+      its_program = leaves.its_program;
+      its_memory = leaves.its_memory;
+      here = leaves.here;
+      its_left = leaves.its_left;
+    },
+  )
+
+  -- the end
+  abbrev ended : End → Kernel
+  ended e = (answer_end (risen world.kernel) 1 1 e).kernel
+
+  abbrev after_end : End → World
+  after_end e = record { kernel = settle (ended e); processes = retain_keys (insert world.processes 1 (without_threads after_steps)) (lives (ended e)); slice = world.slice }
+
+  abbrev end_turn : (e : End) → answer_call (risen world.kernel) 1 1 request ≡ Some (answer_end (risen world.kernel) 1 1 e) → TakesTurn world (end_entry ran request.call)
+  end_turn e answers = record {
+    process = at.process;
+    request = request;
+    stopped = after_steps;
+    answer = plain (EndedOutcome true);
+    answered = ended e;
+    handed = (Fresh, at.handed);
+    there = at.there;
+    asks = asked;
+    answers = answers;
+    call = refl;
+    outcome = refl;
+    signal = refl;
+  }
+
+  pub end_leads : (e : End) → answer_call (risen world.kernel) 1 1 request ≡ Some (answer_end (risen world.kernel) 1 1 e) → (last : World) × Leads world (end_entry ran request.call) last × (last.kernel.ending ≡ ending_of e)
+  end_leads e answers = (
+    after_end e,
+    Turn at.running (end_turn e answers) refl,
+    ap (λ (k : Kernel). k.ending) (settles_none (ended e) (over e)),
+  )
+
+-- ---- the requests, by how the thread stops
+
+module _ (program : Program) (memory : LinearMemory) (next : GuestThread) (left : ℕ) where
+  abbrev Asks : Stepped → Request → Type 0
+  Asks stepped request = request_at program memory next left stepped ≡ Some request
+
+  abbrev spent_call : ℕ
+  spent_call = cond (eqb left 0) 2 1
+
+  asks_spent : (s : Stepped) → StopsAs s stop.Spent → Asks s (plain_request spent_call [])
+  asks_spent (Next m t) h = refl
+  asks_spent (Trapped cause) h = absurd (cc)
+  asks_spent (AtCall f) h = absurd (cc)
+  asks_spent (AtWait width at) h = absurd h
+  asks_spent (AtNotify at) h = absurd h
+  asks_spent Finished h = absurd (cc)
+  asks_spent Stuck h = absurd h
+
+  asks_trap : (s : Stepped) (cause : Cause) → StopsAs s (stop.Trap cause) → Asks s (plain_request 3 [])
+  asks_trap (Next m t) c h = absurd (cc)
+  asks_trap (Trapped cause) c h = refl
+  asks_trap (AtCall f) c h = absurd (cc)
+  asks_trap (AtWait width at) c h = absurd h
+  asks_trap (AtNotify at) c h = absurd h
+  asks_trap Finished c h = absurd (cc)
+  asks_trap Stuck c h = absurd h
+
+  asks_return : (s : Stepped) → StopsAs s stop.Finished → next.main ≡ true → Asks s (plain_request 4 (1 ∷ []))
+  asks_return (Next m t) h main = absurd (cc)
+  asks_return (Trapped cause) h main = absurd (cc)
+  asks_return (AtCall f) h main = absurd (cc)
+  asks_return (AtWait width at) h main = absurd h
+  asks_return (AtNotify at) h main = absurd h
+  asks_return Finished h main = ap (λ b. Some (plain_request 4 (flag b ∷ []))) main
+  asks_return Stuck h main = absurd h
+
+  pub is_call : (s : Stepped) (x : ℕ) → StopsAs s (stop.Call x) → s ≡ AtCall x
+  is_call (Next m t) x h = absurd (cc)
+  is_call (Trapped cause) x h = absurd (cc)
+  is_call (AtCall f) x h = let same : x ≡ f = cc in sym (ap AtCall same)
+  is_call (AtWait width at) x h = absurd h
+  is_call (AtNotify at) x h = absurd h
+  is_call Finished x h = absurd (cc)
+  is_call Stuck x h = absurd h
+
+  asks_call : (s : Stepped) (x call : ℕ) (arguments : List ℕ) → StopsAs s (stop.Call x) → call_of program x ≡ Some call → arguments ≡ arguments_of next (import_arguments program x) → Asks s (call_request memory arguments call)
+  asks_call s x call arguments h known same =
+      ap (λ (stepped : Stepped). request_at program memory next left stepped) (is_call s x h)
+      ∙ ap (option_map (call_request memory (arguments_of next (import_arguments program x)))) known
+      ∙ ap (λ (words : List ℕ). Some (call_request memory words call)) (sym same)
+
+-- ---- each turn
+
+abbrev nothing : WriteReply
+nothing = record { errno = 0; bytes = []; place = Nowhere }
+
+same_either : (b : Bool) (p : Process) → cond b p p ≡ p
+same_either true p = refl
+same_either false p = refl
+
+module _ (world : World) (program : Program) (memory : LinearMemory) (thread : GuestThread) (slice left : ℕ) (at : StandsAt world program memory thread slice left) (most ran : ℕ) (memory' : LinearMemory) (next : GuestThread) (its_most : most ≡ min slice left) where
+  fewer : at.process.fuel - (at.process.used + ran) ≡ left - ran
+  fewer = let e : at.process.fuel - at.process.used ≡ left = at.its_left in omega (arith, e)
+
+  pub spent_leads : Ran program memory thread most ran stop.Spent memory' next → eqb (left - ran) 0 ≡ false → LeadsOn world program memory' next slice (left - ran) (reply_entry ran 1 nothing) None
+  spent_leads ran_so some =
+      reply_leads world program memory thread slice left at most ran stop.Spent memory' next its_most ran_so (plain_request 1 [])
+      (asks_spent program memory' next (left - ran) (step program.module memory' next) ran_so.stops ∙ ap (λ b. Some (plain_request (cond b 2 1) [])) some)
+      0 [] Nowhere memory' next refl
+      (record { its_program = at.its_program; its_memory = refl; here = get-insert_same nat_cmp_total (insert at.process.threads 1 next) 1 next; its_left = fewer })
+
+  pub fuel_leads : Ran program memory thread most ran stop.Spent memory' next → eqb (left - ran) 0 ≡ true → LeadsOn world program memory' next slice (left - ran) (end_entry ran 2) (Some (end.Killed 24))
+  fuel_leads ran_so none =
+      end_leads world program memory thread slice left at most ran stop.Spent memory' next its_most ran_so (plain_request 2 [])
+      (asks_spent program memory' next (left - ran) (step program.module memory' next) ran_so.stops ∙ ap (λ b. Some (plain_request (cond b 2 1) [])) none)
+      (Killed 24) refl
+
+  pub trap_leads : (cause : Cause) → Ran program memory thread most ran (stop.Trap cause) memory' next → LeadsOn world program memory' next slice (left - ran) (end_entry ran 3) (Some (end.Killed 6))
+  trap_leads cause ran_so =
+      end_leads world program memory thread slice left at most ran (stop.Trap cause) memory' next its_most ran_so (plain_request 3 [])
+      (asks_trap program memory' next (left - ran) (step program.module memory' next) cause ran_so.stops)
+      (Killed 6) refl
+
+  pub return_leads : Ran program memory thread most ran stop.Finished memory' next → next.main ≡ true → LeadsOn world program memory' next slice (left - ran) (end_entry ran 4) (Some (end.Exited 0))
+  return_leads ran_so main =
+      end_leads world program memory thread slice left at most ran stop.Finished memory' next its_most ran_so (plain_request 4 (1 ∷ []))
+      (asks_return program memory' next (left - ran) (step program.module memory' next) ran_so.stops main)
+      (Exited 0) refl
+
+  pub exit_leads : (x code : ℕ) → Ran program memory thread most ran (stop.Call x) memory' next → call_of program x ≡ Some 37 → (code ∷ []) ≡ arguments_of next (import_arguments program x)
+      → LeadsOn world program memory' next slice (left - ran) (end_entry ran 37) (Some (end.Exited code))
+  exit_leads x code ran_so known arguments =
+      end_leads world program memory thread slice left at most ran (stop.Call x) memory' next its_most ran_so (plain_request 37 (code ∷ []))
+      (asks_call program memory' next (left - ran) (step program.module memory' next) x 37 (code ∷ []) ran_so.stops known arguments)
+      (Exited code) refl
+
+  pub write_leads : (x : ℕ) (arguments : List ℕ) → Ran program memory thread most ran (stop.Call x) memory' next → call_of program x ≡ Some 17 → arguments ≡ arguments_of next (import_arguments program x) → import_arguments program x ≡ 4
+      → LeadsOn world program (memory_after memory' arguments) (in_frame (answered 4 (Some (reply_of memory' arguments).errno)) next) slice (left - ran) (reply_entry ran 17 (reply_of memory' arguments)) None
+  write_leads x arguments ran_so known same four =
+      let request : Request = request_of memory'.bytes 17 arguments in
+      let reply : WriteReply = reply_of memory' arguments in
+      let operands : operands_at at.process.program (step at.process.program.module memory' next) ≡ 4 =
+      subst (λ (p : Program). operands_at p (step p.module memory' next) ≡ 4) (sym at.its_program) (ap (operands_at program) (is_call program memory' next (left - ran) (step program.module memory' next) x ran_so.stops) ∙ four) in
+      let told : Process = record (with_steps at.process 1 ran memory' next) {
+        memory = memory_after memory' arguments;
+        threads = insert (insert at.process.threads 1 next) 1 (in_frame (answered (operands_at at.process.program (step at.process.program.module memory' next)) (Some reply.errno)) next);
+      } in
+      reply_leads world program memory thread slice left at most ran (stop.Call x) memory' next its_most ran_so request
+      (asks_call program memory' next (left - ran) (step program.module memory' next) x 17 arguments ran_so.stops known same)
+      reply.errno reply.bytes reply.place (memory_after memory' arguments) (in_frame (answered 4 (Some reply.errno)) next)
+      (write_answer (risen world.kernel) at.descriptors at.descriptions request)
+      (subst (λ (o : Process). Leaves o program (memory_after memory' arguments) (in_frame (answered 4 (Some reply.errno)) next) (left - ran)) (sym (same_either (eqb reply.errno 0) told)) (record {
+        its_program = at.its_program;
+        its_memory = refl;
+        here = get-insert_same nat_cmp_total (insert at.process.threads 1 next) 1 _ ∙ ap (λ n. Some (in_frame (answered n (Some reply.errno)) next)) operands;
+        its_left = fewer;
+      }))
+
+-- ---- as it is told
+
+pub as_leads : (world : World) (program : Program) (memory memory' : LinearMemory) (thread thread' : GuestThread) (slice left : ℕ) (entry entry' : Entry) (ended ended' : Option Ended) → memory ≡ memory' → thread ≡ thread' → entry ≡ entry' → ended ≡ ended'
+    → LeadsOn world program memory' thread' slice left entry' ended' → LeadsOn world program memory thread slice left entry ended
+as_leads world program memory memory' thread thread' slice left entry entry' ended ended' a b d e leads =
+    subst (λ (x : LinearMemory). LeadsOn world program x thread slice left entry ended) (sym a)
+    (subst (λ (x : GuestThread). LeadsOn world program memory' x slice left entry ended) (sym b)
+    (subst (λ (x : Entry). LeadsOn world program memory' thread' slice left x ended) (sym d)
+    (subst (λ (x : Option Ended). LeadsOn world program memory' thread' slice left entry' x) (sym e) leads)))
+
+pub as_turn : (world : World) (program : Program) (memory : LinearMemory) (thread : GuestThread) (slice left : ℕ) (entry entry' : Entry) (ended ended' : Option Ended) → entry ≡ entry' → ended ≡ ended'
+    → LeadsOn world program memory thread slice (left - entry'.ran) entry' ended' → LeadsOn world program memory thread slice (left - entry.ran) entry ended
+as_turn world program memory thread slice left entry entry' ended ended' d e leads =
+    subst (λ (x : Entry). LeadsOn world program memory thread slice (left - x.ran) x ended) (sym d)
+    (subst (λ (x : Option Ended). LeadsOn world program memory thread slice (left - entry'.ran) entry' x) (sym e) leads)
+
+pub built_exit : (n : ℕ) → is_built n ≡ true → (n ≡ 17 → ⊥) → n ≡ 37
+built_exit n built other = elim (eqb_tells n 17) [
+  | inl same ↦ absurd (other same.1)
+  | inr apart ↦ eqb-true n 37 (rw apart.0 at built)
+]

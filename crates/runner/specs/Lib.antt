@@ -1,12 +1,2 @@
-pub mod Process
-pub mod Asked
-pub mod Kernel
-pub mod Answer
-pub mod Settle
-pub mod Apply
-pub mod World
-pub mod Boot
-pub mod Run
-pub mod Weight
-pub mod OneProcess
-pub mod Ran
+pub mod One
+pub mod Standing

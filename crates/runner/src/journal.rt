@@ -1,6 +1,6 @@
 ghost use Rattle.std.specs.Prelude.{◌≡◌, ◌+◌, ◌≤◌, [], ◌∷◌, ◌++◌, IfOk, OnOk, OnErr, IsTrue, ◌↔◌, length, slice_get};
 ghost use Rattle.std.specs.Option.{option_copied};
-ghost use Rattle.runner.specs.Weight.{weight, weight_limit};
+ghost use Rattle.world_step.specs.Weight.{weight, weight_limit};
 ghost use Rattle.wx_types.specs.Entry.{entry_weight};
 
 use std::alloc::{AllocError, Global};
@@ -17,7 +17,7 @@ pub struct Journal {
 impl Model for Journal {
     ghost use Rattle.std.specs.Prelude.{List, ◌≡◌, ◌≤◌};
     ghost use Rattle.wx_types.specs.declared.entries.Entry.{Entry};
-    ghost use Rattle.runner.specs.Weight.{weight, weight_limit};
+    ghost use Rattle.world_step.specs.Weight.{weight, weight_limit};
 
     ghost Value = { List Entry };
 

@@ -1,6 +1,5 @@
 //! Runs processes, and keeps the history of the calls that end their slices.
 #![tactic(auto)]
 
-pub mod instance;
 pub mod journal;
 pub mod one;

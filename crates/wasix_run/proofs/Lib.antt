@@ -1,3 +1,4 @@
-pub mod Serving
 pub mod Printing
+pub mod Reading
 pub mod PackLemmas
+pub mod Serving

@@ -1,14 +1,18 @@
 -- What is printed of a history, entry by entry.
-use Rattle.std.proofs.Common.{◌≡◌, ◌≤◌, ◌<◌, ◌+◌, ℕ, List, [], ◌∷◌, ◌++◌, length, take, drop, get_or, slice_get, Option, Some, None, refl, sym, ap, subst, ◌∙◌, arith, append_assoc, length-append}
-use Rattle.std.specs.List.{flat_map}
-use Rattle.std.proofs.lemmas.List.{take_more, append-nil, take-append-le, take-append-drop, drop_more}
+use Rattle.std.proofs.Common.{◌≡◌, ◌≤◌, ◌<◌, ◌+◌, ℕ, List, [], ◌∷◌, ◌++◌, length, take, drop, get_or, slice_get, cond, OnOk, OnErr, inl, inr, Option, Some, None, Result, Ok, Err, refl, sym, ap, ◌∙◌, arith, append_assoc, length-append}
+use Rattle.std.specs.Result.{is_ok}
+use Rattle.std.proofs.lemmas.List.{take_more, append-nil, take-append-le, take-append-drop}
 use Rattle.std.proofs.lemmas.List.Concat.{flat_map-append}
 use Rattle.std.proofs.lemmas.Option.{slice_get-get_or}
 use Rattle.std.proofs.Math.Seq.{take-append-add, take-length}
 use Rattle.wx_types.specs.declared.entries.Entry.{Entry}
-use Rattle.wx_types.specs.Outside.{followed_by, GrewByFront}
+use Rattle.wx_types.specs.Outside.{Rose, followed_by, GrewByFront}
 use Rattle.wx_types.proofs.Told.{followed_by-twice}
+use Rattle.wx_types.specs.declared.errors.Failed.{Failed}
+use Rattle.wasix_run.specs.declared.reason.Reason.{Reason}
 use Rattle.wasix_run.specs.declared.print.Stream.{Stream}
+use Rattle.wasix_run.specs.Texts.{text_of}
+use Rattle.wasix_run.specs.Outside.{Took, IsText}
 use Rattle.wasix_run.specs.Printed.{piece, printed}
 
 -- the entry at an index
@@ -72,3 +76,16 @@ pub grew_then : (start mid after : Option (List ℕ)) (a b : List ℕ) → mid �
 grew_then start mid after a b was grew =
     let few : grew.0 ≤ length b = grew.1 in
     (length a + grew.0, omega (arith, length-append a b), told_more start mid after a (take grew.0 b) (take (length a + grew.0) (a ++ b)) was grew.2 (take-append-add a b grew.0))
+
+-- ---- the text
+
+-- a sink took all of it, or failed with a front of it
+pub took_by : (before after : Option (List ℕ)) (count now : ℕ) (bytes : List ℕ) (result : Result (Unit {0}) Failed) → OnOk result (after ≡ followed_by before bytes) → OnErr result (Rose count now) → OnErr result (GrewByFront before after bytes) → Took before after count now bytes
+took_by before after count now bytes (Ok x) whole fault front = record { whole = λ sound. whole; front = grew_all before after bytes whole }
+took_by before after count now bytes (Err failed) whole fault front = record { whole = λ sound. absurd (sound fault); front = front }
+
+-- the text that stands behind the errors, by what became of the output and the errors
+pub is_text : (first reason : Reason) (text : List ℕ) (out err : Result (Unit {0}) Failed) (out_failed err_failed : Type 0) → text ≡ cond (is_ok out) (text_of first) [] → OnErr out out_failed → OnErr err err_failed → (out ≡ Ok tt → err ≡ Ok tt → reason ≡ first) → IsText first reason text out_failed err_failed
+is_text first reason text (Ok x) (Ok y) out_failed err_failed is o e sound = inl (is, inl (sound refl refl))
+is_text first reason text (Ok x) (Err failed) out_failed err_failed is o e sound = inl (is, inr e)
+is_text first reason text (Err failed) err out_failed err_failed is o e sound = inr (is, o)

@@ -1,456 +1,353 @@
--- The answer to a command, case by case.
-use Rattle.std.proofs.Common.{◌≡◌, ◌≢◌, ◌<◌, ◌≤◌, ◌↔◌, ◌⊎◌, ℕ, List, [], ◌∷◌, ◌++◌, length, take, cond, inl, inr, Option, Some, None, Result, Ok, Err, refl, sym, ap, subst, ◌∙◌, arith}
-use Rattle.std.proofs.lemmas.List.{take_at}
-use Rattle.std.specs.Ordering.{nat_cmp}
-use Rattle.std.specs.Cmp.Lexicographic.{slice_cmp, nat_list_cmp_total}
-use Rattle.std.specs.FinMap.{get, insert, empty, get-insert}
-use Rattle.std.proofs.lemmas.Cmp.{eq_by_cmp_equiv}
+-- The answer to the words, and what it says of the verdict.
+use Rattle.std.proofs.Common.{◌≡◌, ◌≢◌, ◌<◌, ◌≤◌, ◌⊎◌, ℕ, Bool, true, false, List, [], ◌∷◌, length, OnOk, IfErr, inl, inr, Option, Some, None, Result, Ok, Err, refl, sym, ap, subst, ◌∙◌, arith}
+use Rattle.std.specs.Prelude.{if◌then◌else◌}
 use Rattle.wx_types.specs.Files.{Files, file_named}
 use Rattle.wx_types.specs.declared.entries.Entry.{Entry}
-use Rattle.wasm_decode.specs.ThinModule.{ThinModule}
-use Rattle.wasm_decode.specs.ThinGrammar.{SpellsThin, preamble}
-use Rattle.wasm_decode.specs.declared.fault.ThinFault.{ThinFault}
-use Rattle.wasm_decode.specs.declared.fault.ThinFault.TheVariants.{Malformed, NotYet, Memory as NoMemory}
+use Rattle.wx_types.specs.declared.errors.Errno.{Errno}
+use Rattle.wasm_ast.specs.declared.module.Module.{Module}
+use Rattle.wat_asm.specs.Assembled.{Fault, assembled}
+use Rattle.file_tree.specs.FileTree.{FileTree}
+use Rattle.file_tree.specs.Files.{write_at}
+use Rattle.pack_list.specs.Judging.{Named, Judged, judge}
+use Rattle.instance.specs.declared.fault.LoadFault.{LoadFault}
+use Rattle.instance.specs.declared.fault.LoadFault.TheVariants.{Memory as NoMemory}
+use Rattle.instance.specs.Program.{Program}
+use Rattle.instance.specs.Loads.{Loads}
+use Rattle.world_step.specs.Boot.{Boot, boot_world}
+use Rattle.world_step.specs.Journal.{IsJournal}
+use Rattle.world_step.specs.Laws.{RunsAreJournals, OneFileIsThere}
 use Rattle.runner.specs.declared.one.Why.{Why}
-use Rattle.runner.specs.declared.one.Why.TheVariants.{Exited as ExitedWhy, Memory as MemoryWhy}
-use Rattle.runner.specs.Kernel.{End, Exited as ExitedEnd}
-use Rattle.runner.specs.World.{World}
-use Rattle.runner.specs.Boot.{Boot, Loads, boot_world}
-use Rattle.runner.specs.Run.{Run, RunsTo, EachReply, InOrder, EndsAs, StopsOf}
-use Rattle.runner.specs.OneProcess.{Begins}
+use Rattle.runner.specs.declared.one.Why.TheVariants as why
+use Rattle.runner.specs.One.{BootsAs, EndsSo}
 use Rattle.wasix_run.specs.declared.reason.Reason.{Reason}
-use Rattle.wasix_run.specs.declared.reason.Reason.TheVariants.{Exited, Usage, ShelfFault, TooLong, BadList, Done, BadProgram, WriteFault, Memory}
-use Rattle.wasix_run.specs.Line.{One, Pack, line}
-use Rattle.wasix_run.specs.Packing.{PackVerdict, Refused, Missing, Writes, PackedAs, pack_verdict}
-use Rattle.wasix_run.specs.Outside.{Names, Boots, RunEnds, one_boot, program_path, program_limit}
-use Rattle.wasix_run.specs.Causes.{ExactlyWhere, ComesUnwritten, ComesWhere, IsLongProgram, IsTooLong, IsMalformed, IsNotYet, Packs, IsDone, IsBadList}
-use Rattle.wasix_run.specs.Loading.{Loading, HasProgram, IsLoadFault}
-use Rattle.wasix_run.specs.Serves.{Serves, IsRun, IsOneReason, reason_of}
-use Rattle.runner.specs.Ran.{Ran}
+use Rattle.wasix_run.specs.declared.reason.Reason.TheVariants.{Exited, Killed, JournalFull, Usage, ShelfFault, TooLong, BadList, BadText, Done, WriteFault, Memory}
+use Rattle.wasix_run.specs.Line.{Command, One, Pack, Asm, line}
+use Rattle.wasix_run.specs.Verdict.{Verdict, Missing, Refuses, Runs, Writes, with_file}
+use Rattle.wasix_run.specs.Packing.{written, list_judged, filled, pack_verdict, file_limit, list_limit}
+use Rattle.wasix_run.specs.Judging.{program_limit, text_limit, one_boot, loaded_verdict, assembled_verdict, OfProgram, OfCommand, IsVerdict, HasVerdict}
+use Rattle.wasix_run.specs.declared.file_fault.FileFault.{FileFault}
+use Rattle.wasix_run.specs.declared.file_fault.FileFault.TheVariants as file
+use Rattle.wasix_run.specs.declared.load.ProgramFault.{ProgramFault}
+use Rattle.wasix_run.specs.declared.load.ProgramFault.TheVariants as program
+use Rattle.wasix_run.specs.Loading.{Loaded, Loading, IsLonger, WritesAs, Counts, CountsRead, fault_reason, program_reason}
+use Rattle.wasix_run.specs.Outside.{ShelfCounts}
+use Rattle.wasix_run.specs.Serves.{IsFailure, reason_of, Follows, RunEnds, Left, Unbegun, Ended, OutOfMemory, Begun, IsUnbegun, IsToWrite, Keeps, Serves, NoCommand, Failed, Refused, Written, Ran, IsToldAs}
 
--- the words name one file, and the shelf has one content under it
-same_bytes : (words : List (List ℕ)) (files : Files) (file a b : List ℕ) → line words ≡ Some (One file) → file_named files file ≡ Some b → Names words files a → a ≡ b
-same_bytes words files file a b command found names =
-    let commands : Some (One names.file) ≡ Some (One file) = sym names.command ∙ command in
-    let file_same : names.file ≡ file = cc in
-    let both : Some a ≡ Some b = sym names.found ∙ ap (file_named files) file_same ∙ found in
-    cc
+-- ---- what is written is no run
 
--- words that are no command name no file
-no_names : (words : List (List ℕ)) (files : Files) (bytes : List ℕ) → line words ≡ None → Names words files bytes → ⊥
-no_names words files bytes none names = let both : Some (One names.file) ≡ None = sym names.command ∙ none in cc
+abbrev IsNoRun : Verdict → Type 0
+IsNoRun Missing = Unit {0}
+IsNoRun (Refuses reason) = Unit {0}
+IsNoRun (Runs boot) = ⊥
+IsNoRun (Writes name bytes) = Unit {0}
 
--- words that name a program, or are no command, name no list
-no_list : (words : List (List ℕ)) (files : Files) (file : List ℕ) (verdict : PackVerdict) → line words ≡ Some (One file) → Packs words files verdict → ⊥
-no_list words files file verdict command packs = let both : Some (Pack packs.list packs.out) ≡ Some (One file) = sym packs.command ∙ command in let never : ⊥ = cc in never
-
-no_list_at_all : (words : List (List ℕ)) (files : Files) (verdict : PackVerdict) → line words ≡ None → Packs words files verdict → ⊥
-no_list_at_all words files verdict none packs = let both : Some (Pack packs.list packs.out) ≡ None = sym packs.command ∙ none in let never : ⊥ = cc in never
-
--- words that name a list name no program
-no_program : (words : List (List ℕ)) (files : Files) (list out bytes : List ℕ) → line words ≡ Some (Pack list out) → Names words files bytes → ⊥
-no_program words files list out bytes command names = let both : Some (One names.file) ≡ Some (Pack list out) = sym names.command ∙ command in let never : ⊥ = cc in never
-
--- ---- an empty history
-
-no_replies : (boot : Boot) → EachReply boot []
-no_replies boot [] after entry parts = absurd (let never : ⊥ = cc in never)
-no_replies boot (first ∷ before) after entry parts = absurd (let never : ⊥ = cc in never)
-
-no_end : (words : List (List ℕ)) (files : Files) (end : End) → RunEnds words files [] end → ⊥
-no_end words files end ends =
-    let open_still : None ≡ Some end = sym (ap (λ (w : World). w.kernel.ended) ends.2.1.2) ∙ ends.2.2 in cc
-
-no_stops : (boot : Boot) → InOrder boot []
-no_stops boot program loads pid = none boot.slice (get (boot_world boot program).processes pid)
+no_run_of_file : (found : Option (List ℕ)) (limit : ℕ) (next : List ℕ → Verdict) → ((bytes : List ℕ) → IsNoRun (next bytes)) → IsNoRun (with_file found limit next)
+no_run_of_file None limit next none = tt
+no_run_of_file (Some bytes) limit next none = choose _
   where
-    none : (slice : ℕ) (process : Option _) → StopsOf slice process []
-    none slice None = tt
-    none slice (Some process) = tt
+    choose : (b : Bool) → IsNoRun (if b then Refuses TooLong else next bytes)
+    choose true = tt
+    choose false = none bytes
 
-nothing_run : (words : List (List ℕ)) (files : Files) (boot : Boot) → Boots words files boot → Run boot []
-nothing_run words files boot boots = (boot_world boot boots.program, (boots.program, boots.loads, refl), omega arith)
+no_run_written : (file : Named) (tree : Result FileTree Errno) (next : FileTree → Verdict) → ((new : FileTree) → IsNoRun (next new)) → IsNoRun (written file tree next)
+no_run_written file (Ok tree) next none = none tree
+no_run_written file (Err error) next none = tt
 
--- ---- reasons that differ
+no_run_filled : (files : Files) (out : List ℕ) (tree : FileTree) (named : List Named) → IsNoRun (filled files out tree named)
+unfolding filled
+no_run_filled files out tree [] = tt
+no_run_filled files out tree (file ∷ rest) =
+    no_run_of_file (file_named files file.name) file_limit (λ bytes. written file (write_at tree file.node 0 bytes) (λ next. filled files out next rest))
+    (λ bytes. no_run_written file (write_at tree file.node 0 bytes) (λ next. filled files out next rest) (λ next. no_run_filled files out next rest))
 
--- a cause that doesn't hold, and a reason that it isn't
-neither : (reason expected : Reason) (cause : Type 0) → reason ≢ expected → (cause → ⊥) → ExactlyWhere reason expected cause
-neither reason expected cause differ never = ((λ e. absurd (differ e)), (λ c _ _. absurd (never c)))
+no_run_judged : (files : Files) (out : List ℕ) (judged : Result Judged ℕ) → IsNoRun (list_judged files out judged)
+no_run_judged files out (Ok judged) = no_run_filled files out judged.tree judged.files
+no_run_judged files out (Err number) = tt
 
-shelf_failed : (expected : Reason) (cause : Type 0) → ShelfFault ≢ expected → ExactlyWhere ShelfFault expected cause
-shelf_failed expected cause differ = ((λ e. absurd (differ e)), (λ c sound _. absurd (sound refl)))
+no_run_packed : (files : Files) (list out : List ℕ) → IsNoRun (pack_verdict files list out)
+unfolding pack_verdict
+no_run_packed files list out = no_run_of_file (file_named files list) list_limit (λ text. list_judged files out (judge text)) (λ text. no_run_judged files out (judge text))
 
-no_memory : (expected : Reason) (cause : Type 0) → Memory ≢ expected → ExactlyWhere Memory expected cause
-no_memory expected cause differ = ((λ e. absurd (differ e)), (λ c _ room. absurd (room refl)))
+no_run_assembled : (out : List ℕ) (answer : Result Module Fault) → IsNoRun (assembled_verdict out answer)
+no_run_assembled out (Ok m) = tt
+no_run_assembled out (Err fault) = tt
 
-just : (reason : Reason) (cause : Type 0) → cause → ExactlyWhere reason reason cause
-just reason cause holds = ((λ _. holds), (λ _ _ _. refl))
+-- ---- a boot of the verdict
 
--- ---- a file that is there
+abbrev IsBootOfBytes : Boot → Type 0
+IsBootOfBytes boot = (bytes : List ℕ) × (program : Program) × (boot ≡ one_boot bytes) × Loads bytes (Ok program)
 
-module _ (words : List (List ℕ)) (files : Files) (file : List ℕ) (command : line words ≡ Some (One file)) where
-  -- within its limit it isn't too long
-  short_program : (bytes : List ℕ) → HasProgram files file bytes → IsLongProgram words files → ⊥
-  short_program bytes has long =
-      let same = same_bytes words files file long.0 bytes command has.found long.1 in
-      let more : program_limit < length bytes = subst (λ (b : List ℕ). program_limit < length b) same long.2 in
-      let few : length bytes ≤ program_limit = has.short in
-      omega arith
+boot_loaded : (boot : Boot) (bytes : List ℕ) (answer : Result Program LoadFault) → Loads bytes answer → Runs boot ≡ loaded_verdict bytes answer → IsBootOfBytes boot
+boot_loaded boot bytes (Ok program) loads is = (let same : boot ≡ one_boot bytes = cc in (bytes, program, same, loads))
+boot_loaded boot bytes (Err fault) loads is = absurd (let never : ⊥ = cc in never)
 
-  short_enough : (bytes : List ℕ) → HasProgram files file bytes → IsTooLong words files → ⊥
-  short_enough bytes has long = elim long [ inl program ↦ short_program bytes has program | inr packs ↦ no_list words files file (Refused TooLong) command packs ]
+boot_of_program : (boot : Boot) (found : Option (List ℕ)) → OfProgram found (Runs boot) → IsBootOfBytes boot
+boot_of_program boot None is = absurd (let never : ⊥ = cc in never)
+boot_of_program boot (Some bytes) is = elim is [
+  | inl long ↦ absurd (let e = long.1 in let never : ⊥ = cc in never)
+  | inr short ↦ boot_loaded boot bytes short.1.0 short.1.1 short.1.3
+]
 
-  -- past it, it is nothing else
-  too_long_malformed : (bytes : List ℕ) → file_named files file ≡ Some bytes → program_limit < length bytes → IsMalformed words files → ⊥
-  too_long_malformed bytes found long bad =
-      let same = same_bytes words files file bad.0 bytes command found bad.1 in
-      let few : length bytes ≤ program_limit = subst (λ (b : List ℕ). length b ≤ program_limit) same bad.2 in
-      omega arith
+boot_of_command : (files : Files) (boot : Boot) (command : Option Command) → OfCommand command files (Runs boot) → IsBootOfBytes boot
+boot_of_command files boot None is = absurd (let never : ⊥ = cc in never)
+boot_of_command files boot (Some (One file)) is = boot_of_program boot (file_named files file) is
+boot_of_command files boot (Some (Pack list out)) is = absurd (subst IsNoRun (sym is) (no_run_packed files list out))
+boot_of_command files boot (Some (Asm text out)) is =
+    absurd (subst IsNoRun (sym is) (no_run_of_file (file_named files text) text_limit (λ bytes. assembled_verdict out (assembled bytes)) (λ bytes. no_run_assembled out (assembled bytes))))
 
-  too_long_not_yet : (bytes : List ℕ) → file_named files file ≡ Some bytes → program_limit < length bytes → IsNotYet words files → ⊥
-  too_long_not_yet bytes found long bad =
-      let same = same_bytes words files file bad.0 bytes command found bad.1 in
-      let few : length bytes ≤ program_limit = subst (λ (b : List ℕ). length b ≤ program_limit) same bad.2 in
-      omega arith
+-- ---- verdicts of a command
 
-  begins_not_malformed : (bytes : List ℕ) → file_named files file ≡ Some bytes → take 8 bytes ≡ preamble → IsMalformed words files → ⊥
-  begins_not_malformed bytes found begins bad =
-      let same = same_bytes words files file bad.0 bytes command found bad.1 in
-      bad.3 (ap (take 8) same ∙ begins)
-
-  malformed_not_yet : (bytes : List ℕ) → file_named files file ≡ Some bytes → take 8 bytes ≢ preamble → IsNotYet words files → ⊥
-  malformed_not_yet bytes found other bad =
-      let same = same_bytes words files file bad.0 bytes command found bad.1 in
-      other (ap (take 8) (sym same) ∙ bad.3)
-
-  spelled_not_yet : (bytes : List ℕ) (program : ThinModule) → file_named files file ≡ Some bytes → SpellsThin bytes program → IsNotYet words files → ⊥
-  spelled_not_yet bytes program found spelled bad =
-      let same = same_bytes words files file bad.0 bytes command found bad.1 in
-      bad.4 program (subst (λ (b : List ℕ). SpellsThin b program) (sym same) spelled)
-
--- SpellsThin says how the bytes begin
-pub begins : (bytes : List ℕ) (program : ThinModule) → SpellsThin bytes program → take 8 bytes ≡ preamble
-begins bytes program spelled = ap (take 8) spelled.1
-
--- ---- the answers
-
-module _ (words : List (List ℕ)) (files : Files) where
-  pub serves_usage : line words ≡ None → Serves words files Usage []
-  serves_usage none = record {
-    run = nothing_run words files;
-    replies = λ boot boots. no_replies boot;
-    order = λ boot boots. no_stops boot;
-    exited = λ code. ((λ e. absurd (let never : ⊥ = cc in never)), (λ ends. absurd (no_end words files (ExitedEnd code) ends)));
-    too_long = neither Usage TooLong (IsTooLong words files) (λ e. cc) (λ c. elim c [ inl program ↦ no_names words files program.0 none program.1 | inr packs ↦ no_list_at_all words files (Refused TooLong) none packs ]);
-    done = neither Usage Done (IsDone words files) (λ e. cc) (λ c. no_list_at_all words files (Writes c.0) none c.1);
-    bad_list = λ number. neither Usage (BadList number) (IsBadList words files number) (λ e. cc) (no_list_at_all words files (Refused (BadList number)) none);
-    malformed = neither Usage (BadProgram Malformed) (IsMalformed words files) (λ e. cc) (λ c. no_names words files c.0 none c.1);
-    not_yet = neither Usage (BadProgram NotYet) (IsNotYet words files) (λ e. cc) (λ c. no_names words files c.0 none c.1);
-    complete = λ boot boots sound. absurd (no_names words files boots.bytes none boots.names);
+module _ (words : List (List ℕ)) (told : Option Files) (command : Command) (is : line words ≡ Some command) where
+  -- the verdict of each telling of the files is that of the words
+  pub has_verdict : (verdict : Verdict) → ((files : Files) → told ≡ Some files → OfCommand (Some command) files verdict) → ((files : Files) (other : Verdict) → told ≡ Some files → OfCommand (Some command) files other → other ≡ verdict) → HasVerdict words told verdict
+  has_verdict verdict right only = record {
+    is = λ files held. subst (λ (c : Option Command). OfCommand c files verdict) (sym is) (right files held);
+    only = λ files other held of. only files other held (subst (λ (c : Option Command). OfCommand c files other) is of);
   }
 
-  refused : (file : List ℕ) (reason : Reason) → line words ≡ Some (One file) → reason ≢ Done → ((number : ℕ) → reason ≢ BadList number) → ((code : ℕ) → reason ≢ Exited code) → ExactlyWhere reason TooLong (IsTooLong words files) → ExactlyWhere reason (BadProgram Malformed) (IsMalformed words files) → ExactlyWhere reason (BadProgram NotYet) (IsNotYet words files) → ((boot : Boot) → Boots words files boot → reason ≢ ShelfFault → IsRun reason) → Serves words files reason []
-  refused file reason command undone right open_still long bad later whole = record {
-    run = nothing_run words files;
-    replies = λ boot boots. no_replies boot;
-    order = λ boot boots. no_stops boot;
-    exited = λ code. ((λ e. absurd (open_still code e)), (λ ends. absurd (no_end words files (ExitedEnd code) ends)));
-    too_long = long;
-    malformed = bad;
-    not_yet = later;
-    done = neither reason Done (IsDone words files) undone (λ c. no_list words files file (Writes c.0) command c.1);
-    bad_list = λ number. neither reason (BadList number) (IsBadList words files number) (right number) (no_list words files file (Refused (BadList number)) command);
-    complete = whole;
-  }
+module _ (words : List (List ℕ)) (told : Option Files) (file : List ℕ) (is : line words ≡ Some (One file)) where
+  too_long : IsLonger told file program_limit → HasVerdict words told (Refuses TooLong)
+  too_long longer = has_verdict words told (One file) is (Refuses TooLong)
+      (λ files held. (let l = longer files held in subst (λ (found : Option (List ℕ)). OfProgram found (Refuses TooLong)) (sym l.1) (inl (l.2, refl))))
+      (λ files other held of. (let l = longer files held in elim (subst (λ (found : Option (List ℕ)). OfProgram found other) l.1 of) [ inl long ↦ long.1 | inr short ↦ absurd (let few : length l.0 ≤ program_limit = short.0 in let more : program_limit < length l.0 = l.2 in omega arith) ]))
 
-  -- the bytes of a boot's program spell it
-  boot_spells : (file : List ℕ) (boot : Boot) → line words ≡ Some (One file) → Boots words files boot → (bytes : List ℕ) × HasProgram files file bytes × (program : ThinModule) × SpellsThin bytes program
-  boot_spells file boot command boots =
-      let commands : Some (One boots.names.file) ≡ Some (One file) = sym boots.names.command ∙ command in
-      let same : boots.names.file ≡ file = cc in
-      let loads : Loads (one_boot boots.bytes) boots.program = subst (λ (b : Boot). Loads b boots.program) boots.is boots.loads in
-      let here : get {R = slice_cmp nat_cmp} (insert empty program_path boots.bytes) program_path ≡ Some boots.bytes =
-      get-insert nat_list_cmp_total empty program_path boots.bytes program_path ∙ ap (λ b. cond b (Some boots.bytes) (get {R = slice_cmp nat_cmp} empty program_path)) ((eq_by_cmp_equiv nat_list_cmp_total).refl program_path) in
-      let both : Some loads.0 ≡ Some boots.bytes = sym loads.1 ∙ here in
-      let bytes : loads.0 ≡ boots.bytes = cc in
-      (boots.bytes, record { found = ap (file_named files) (sym same) ∙ boots.names.found; short = boots.short }, boots.program, subst (λ (b : List ℕ). SpellsThin b boots.program) bytes loads.2)
+  pub loaded : (answer : Result Program LoadFault) → answer ≢ Err NoMemory → (l : Loaded told file answer) → HasVerdict words told (loaded_verdict l.bytes answer)
+  loaded answer room l = has_verdict words told (One file) is (loaded_verdict l.bytes answer)
+      (λ files held. subst (λ (found : Option (List ℕ)). OfProgram found (loaded_verdict l.bytes answer)) (sym (l.found files held)) (inr (l.short, (answer, l.loads, room, refl))))
+      (λ files other held of. elim (subst (λ (found : Option (List ℕ)). OfProgram found other) (l.found files held) of) [
+        | inl long ↦ absurd (let few : length l.bytes ≤ program_limit = l.short in let more : program_limit < length l.bytes = long.0 in omega arith)
+        | inr short ↦ short.1.3 ∙ ap (loaded_verdict l.bytes) (l.only short.1.0 short.1.1 short.1.2)
+      ])
 
-  pub serves_refused : (file : List ℕ) (reason : Reason) → line words ≡ Some (One file) → Loading files file (Err reason) → Serves words files reason []
-  serves_refused file (Exited code) command cause = absurd cause
-  serves_refused file Usage command cause = absurd cause
-  serves_refused file ShelfFault command cause =
-      refused file ShelfFault command (λ e. cc) (λ number e. cc) (λ code e. cc) (shelf_failed TooLong (IsTooLong words files) (λ e. cc)) (shelf_failed (BadProgram Malformed) (IsMalformed words files) (λ e. cc)) (shelf_failed (BadProgram NotYet) (IsNotYet words files) (λ e. cc)) (λ boot boots sound. absurd (sound refl))
-  serves_refused file (BadList line) command cause = absurd cause
-  serves_refused file Done command cause = absurd cause
-  serves_refused file TooLong command cause =
-      refused file TooLong command (λ e. cc) (λ number e. cc) (λ code e. cc)
-      (just TooLong (IsTooLong words files) (inl (cause.0, record { file = file; command = command; found = cause.1 }, cause.2)))
-      (neither TooLong (BadProgram Malformed) (IsMalformed words files) (λ e. cc) (too_long_malformed words files file command cause.0 cause.1 cause.2))
-      (neither TooLong (BadProgram NotYet) (IsNotYet words files) (λ e. cc) (too_long_not_yet words files file command cause.0 cause.1 cause.2))
-      (λ boot boots sound. (let s = boot_spells file boot command boots in absurd (short_enough words files file command s.0 s.1 (inl (cause.0, record { file = file; command = command; found = cause.1 }, cause.2)))))
-  serves_refused file (BadProgram Malformed) command cause =
-      refused file (BadProgram Malformed) command (λ e. cc) (λ number e. cc) (λ code e. cc)
-      (neither (BadProgram Malformed) TooLong (IsTooLong words files) (λ e. cc) (short_enough words files file command cause.0 cause.1))
-      (just (BadProgram Malformed) (IsMalformed words files) (cause.0, record { file = file; command = command; found = cause.1.found }, cause.1.short, cause.2))
-      (neither (BadProgram Malformed) (BadProgram NotYet) (IsNotYet words files) (λ e. cc) (malformed_not_yet words files file command cause.0 cause.1.found cause.2))
-      (λ boot boots sound. (let s = boot_spells file boot command boots in absurd (begins_not_malformed words files file command s.0 s.1.found (begins s.0 s.2 s.3) (cause.0, record { file = file; command = command; found = cause.1.found }, cause.1.short, cause.2))))
-  serves_refused file (BadProgram NotYet) command cause =
-      refused file (BadProgram NotYet) command (λ e. cc) (λ number e. cc) (λ code e. cc)
-      (neither (BadProgram NotYet) TooLong (IsTooLong words files) (λ e. cc) (short_enough words files file command cause.0 cause.1))
-      (neither (BadProgram NotYet) (BadProgram Malformed) (IsMalformed words files) (λ e. cc) (begins_not_malformed words files file command cause.0 cause.1.found cause.2))
-      (just (BadProgram NotYet) (IsNotYet words files) (cause.0, record { file = file; command = command; found = cause.1.found }, cause.1.short, cause.2, cause.3))
-      (λ boot boots sound. (let s = boot_spells file boot command boots in absurd (spelled_not_yet words files file command s.0 s.2 s.1.found s.3 (cause.0, record { file = file; command = command; found = cause.1.found }, cause.1.short, cause.2, cause.3))))
-  serves_refused file (BadProgram NoMemory) command cause = absurd cause
-  serves_refused file WriteFault command cause = absurd cause
-  serves_refused file Memory command cause =
-      refused file Memory command (λ e. cc) (λ number e. cc) (λ code e. cc) (no_memory TooLong (IsTooLong words files) (λ e. cc)) (no_memory (BadProgram Malformed) (IsMalformed words files) (λ e. cc)) (no_memory (BadProgram NotYet) (IsNotYet words files) (λ e. cc)) (λ boot boots sound. inr refl)
+-- ---- what is to be written
 
-  -- the boot of a file that spells the program begins it
-  boot_begins : (file : List ℕ) (program : ThinModule) (bytes : List ℕ) → SpellsThin bytes program → Begins (one_boot bytes) program
-  boot_begins file program bytes spelled = record {
-    loads = (bytes, get-insert nat_list_cmp_total empty program_path bytes program_path ∙ ap (λ b. cond b (Some bytes) (get {R = slice_cmp nat_cmp} empty program_path)) ((eq_by_cmp_equiv nat_list_cmp_total).refl program_path), spelled);
-    slice = refl;
-    fuel = refl;
-  }
+-- the verdict of a list or a text, by what its file gives
+module _ (words : List (List ℕ)) (told : Option Files) (command : Command) (is : line words ≡ Some command) (of : Files → Verdict) where
+  module _ (right : (files : Files) (verdict : Verdict) → verdict ≡ of files → OfCommand (Some command) files verdict) (back : (files : Files) (verdict : Verdict) → OfCommand (Some command) files verdict → verdict ≡ of files) where
+    of_all : (verdict : Verdict) → ((files : Files) → told ≡ Some files → of files ≡ verdict) → HasVerdict words told verdict
+    of_all verdict all = has_verdict words told command is verdict
+        (λ files held. right files verdict (sym (all files held)))
+        (λ files other held of_other. back files other of_other ∙ all files held)
 
-  -- the boot that words and shelf determine is that one
-  boots_is : (file bytes : List ℕ) (boot : Boot) → line words ≡ Some (One file) → file_named files file ≡ Some bytes → Boots words files boot → boot ≡ one_boot bytes
-  boots_is file bytes boot command found boots = boots.is ∙ ap one_boot (same_bytes words files file boots.bytes bytes command found boots.names)
+    pub to_write : (out : List ℕ) (result : Result (List ℕ) FileFault) → ((files : Files) → told ≡ Some files → WritesAs out (of files) result) → IsToWrite words told out result
+    to_write out (Ok bytes) all = of_all (Writes out bytes) all
+    to_write out (Err file.Shelf) all = tt
+    to_write out (Err file.TooLong) all = of_all (Refuses TooLong) all
+    to_write out (Err (file.List line)) all = of_all (Refuses (BadList line)) all
+    to_write out (Err (file.Text line kind)) all = of_all (Refuses (BadText line kind)) all
+    to_write out (Err file.Memory) all = tt
 
-  boots_begin : (file bytes : List ℕ) (program : ThinModule) (boot : Boot) → line words ≡ Some (One file) → file_named files file ≡ Some bytes → SpellsThin bytes program → Boots words files boot → Begins boot program
-  boots_begin file bytes program boot command found spelled boots =
-      subst (λ (b : Boot). Begins b program) (sym (boots_is file bytes boot command found boots)) (boot_begins file program bytes spelled)
+pub counts_read : (result : Result (List ℕ) FileFault) (before after : ℕ) → OnOk result (after ≡ before) → IfErr result (λ fault. Counts fault before after) → CountsRead result before after
+counts_read (Ok bytes) before after ok err = ok
+counts_read (Err fault) before after ok err = err
 
-  its_boot : (file bytes : List ℕ) (program : ThinModule) → line words ≡ Some (One file) → HasProgram files file bytes → SpellsThin bytes program → Boots words files (one_boot bytes)
-  its_boot file bytes program command has spelled = record {
-    bytes = bytes;
-    program = program;
-    names = record { file = file; command = command; found = has.found };
-    short = has.short;
-    is = refl;
-    loads = (boot_begins file program bytes spelled).loads;
-  }
+-- ---- answers
 
-  -- a run's reason is none of the refusals
-  ran_exactly : (why : Why) (expected : Reason) (cause : Type 0) → ((code : ℕ) → Exited code ≢ expected) → Memory ≢ expected → (cause → ⊥) → ExactlyWhere (reason_of why) expected cause
-  ran_exactly (ExitedWhy code) expected cause exited room never = neither (Exited code) expected cause (exited code) never
-  ran_exactly MemoryWhy expected cause exited room never = neither Memory expected cause room never
+module _ (words : List (List ℕ)) (told : Option Files) (command : Command) (is : line words ≡ Some command) where
+  pub unwritten : (out : List ℕ) (fault : FileFault) → IsToWrite words told out (Err fault) → Serves words told (fault_reason fault) []
+  unwritten out file.Shelf to = Failed command is (inl refl) refl
+  unwritten out file.TooLong to = Refused command is to tt refl
+  unwritten out (file.List line) to = Refused command is to tt refl
+  unwritten out (file.Text line kind) to = Refused command is to tt refl
+  unwritten out file.Memory to = Failed command is (inr refl) refl
 
-  exited_why : (why : Why) (code : ℕ) → reason_of why ≡ Exited code → why ≡ ExitedWhy code
-  exited_why (ExitedWhy c) code e = (let same : c ≡ code = cc in ap ExitedWhy same)
-  exited_why MemoryWhy code e = cc
+  pub wrote : (out bytes : List ℕ) (reason : Reason) (entries : List Entry) → entries ≡ [] → (reason ≡ Done) ⊎ (reason ≡ ShelfFault) → HasVerdict words told (Writes out bytes) → Serves words told reason entries
+  wrote out bytes reason entries nothing either has = elim either [
+    | inl done ↦ Written command is out bytes has done nothing
+    | inr fault ↦ Failed command is (inl fault) nothing
+  ]
 
-  why_run : (why : Why) → IsRun (reason_of why)
-  why_run (ExitedWhy code) = inl (code, refl)
-  why_run MemoryWhy = inr refl
+module _ (words : List (List ℕ)) (told : Option Files) (file : List ℕ) (is : line words ≡ Some (One file)) where
+  pub unloaded : (fault : ProgramFault) → Loading told file (Err fault) → Serves words told (program_reason fault) []
+  unloaded program.Shelf loading = Failed (One file) is (inl refl) refl
+  unloaded program.TooLong loading = Refused (One file) is (too_long words told file is loading) tt refl
+  unloaded (program.Load fault) loading = Refused (One file) is (loaded words told file is (Err fault) (λ e. loading.1 (let same : fault ≡ NoMemory = cc in same)) loading.0) loading.1 refl
+  unloaded program.Memory loading = Failed (One file) is (inr refl) refl
 
-  pub serves_run : (file : List ℕ) (program : ThinModule) (why : Why) (entries : List Entry) → line words ≡ Some (One file) → Loading files file (Ok program) → Ran program why entries → Serves words files (reason_of why) entries
-  serves_run file program why entries command cause ran =
-      let bytes : List ℕ = cause.0 in
-      let has : HasProgram files file bytes = cause.1 in
-      let spelled : SpellsThin bytes program = cause.2 in
-      let first = boots_begin file bytes program in
-      record {
-        run = λ boot boots. ran.run boot (first boot command has.found spelled boots);
-        replies = λ boot boots. ran.replies boot (first boot command has.found spelled boots);
-        order = λ boot boots. ran.order boot (first boot command has.found spelled boots);
-        exited = λ code. (
-          (λ e. (
-            one_boot bytes,
-            its_boot file bytes program command has spelled,
-            (ran.exited (one_boot bytes) code (boot_begins file program bytes spelled)).0 (exited_why why code e),
-          )),
-          (λ ends. ap reason_of ((ran.exited ends.0 code (first ends.0 command has.found spelled ends.1)).1 ends.2)),
-        );
-        too_long = ran_exactly why TooLong (IsTooLong words files) (λ code e. cc) (λ e. cc) (short_enough words files file command bytes has);
-        malformed = ran_exactly why (BadProgram Malformed) (IsMalformed words files) (λ code e. cc) (λ e. cc) (begins_not_malformed words files file command bytes has.found (begins bytes program spelled));
-        not_yet = ran_exactly why (BadProgram NotYet) (IsNotYet words files) (λ code e. cc) (λ e. cc) (spelled_not_yet words files file command bytes program has.found spelled);
-        done = ran_exactly why Done (IsDone words files) (λ code e. cc) (λ e. cc) (λ c. no_list words files file (Writes c.0) command c.1);
-        bad_list = λ number. ran_exactly why (BadList number) (IsBadList words files number) (λ code e. cc) (λ e. cc) (no_list words files file (Refused (BadList number)) command);
-        complete = λ boot boots sound. why_run why;
-      }
+  left_of_run : (boot : Boot) (entries : List Entry) (how : Why) → EndsSo boot entries how → Left boot (reason_of how) entries
+  left_of_run boot entries (why.Exited code) ends = Ended (Exited code) ends (inl refl)
+  left_of_run boot entries (why.Killed signal) ends = Ended (Killed signal) ends (inl refl)
+  left_of_run boot entries (why.JournalFull pid tid ran weight) ends = Ended (JournalFull pid tid ran weight) ends (inl refl)
+  left_of_run boot entries why.Memory ends = OutOfMemory refl ends
 
--- a fault while a program is loaded tells of no command that isn't one
-pub load_fault_usage : (reason : Reason) → IsLoadFault reason → reason ≢ Usage
-load_fault_usage (Exited code) is e = is
-load_fault_usage Usage is e = is
-load_fault_usage ShelfFault is e = cc
-load_fault_usage TooLong is e = cc
-load_fault_usage (BadList line) is e = is
-load_fault_usage Done is e = is
-load_fault_usage (BadProgram fault) is e = cc
-load_fault_usage WriteFault is e = is
-load_fault_usage Memory is e = cc
+  pub ran : (p : Program) (l : Loaded told file (Ok p)) (how : Why) (reason : Reason) (entries : List Entry) → reason ≡ reason_of how → IsJournal (one_boot l.bytes) entries → EndsSo (one_boot l.bytes) entries how → Serves words told reason entries
+  ran p l how reason entries same journal ends =
+      Ran how same
+      (record {
+        file = file;
+        bytes = l.bytes;
+        command = is;
+        short = l.short;
+        verdict = loaded words told file is (Ok p) (λ e. (let never : ⊥ = cc in never)) l;
+        journal = journal;
+        left = subst (λ (r : Reason). Left (one_boot l.bytes) r entries) (sym same) (left_of_run (one_boot l.bytes) entries how ends);
+      })
+      ends
 
-pub load_fault_memory : (reason : Reason) → IsLoadFault reason → reason ≢ BadProgram NoMemory
-load_fault_memory (Exited code) is e = is
-load_fault_memory Usage is e = is
-load_fault_memory ShelfFault is e = cc
-load_fault_memory TooLong is e = cc
-load_fault_memory (BadList line) is e = is
-load_fault_memory Done is e = is
-load_fault_memory (BadProgram Malformed) is e = cc
-load_fault_memory (BadProgram NotYet) is e = cc
-load_fault_memory (BadProgram NoMemory) is e = is
-load_fault_memory WriteFault is e = is
-load_fault_memory Memory is e = cc
+-- ---- the journal of no entry
 
-pub load_fault_write : (reason : Reason) → IsLoadFault reason → reason ≢ WriteFault
-load_fault_write (Exited code) is e = is
-load_fault_write Usage is e = is
-load_fault_write ShelfFault is e = cc
-load_fault_write TooLong is e = cc
-load_fault_write (BadList line) is e = is
-load_fault_write Done is e = is
-load_fault_write (BadProgram fault) is e = cc
-load_fault_write WriteFault is e = is
-load_fault_write Memory is e = cc
+pub boots_as : OneFileIsThere → (bytes : List ℕ) (program : Program) → Loads bytes (Ok program) → BootsAs (one_boot bytes) program 10_000 4_294_967_296
+unfolding one_boot
+boots_as there bytes program loads = record { loads = (bytes, there bytes, loads); its_slice = refl; its_fuel = refl }
 
-why_differs : (why : Why) (reason : Reason) → ((code : ℕ) → Exited code ≢ reason) → Memory ≢ reason → reason_of why ≢ reason
-why_differs (ExitedWhy code) reason exited room e = exited code e
-why_differs MemoryWhy reason exited room e = room e
+module _ (law : RunsAreJournals) (there : OneFileIsThere) where
+  empty_journal : (bytes : List ℕ) (program : Program) → Loads bytes (Ok program) → IsJournal (one_boot bytes) []
+  unfolding one_boot
+  empty_journal bytes program loads =
+      law (one_boot bytes) [] (
+        boot_world (one_boot bytes) program,
+        record { program = program; loads = (bytes, there bytes, loads); run = refl },
+        omega arith,
+      )
 
--- a program's reason is none of these
-pub one_not_usage : (reason : Reason) → IsOneReason reason → reason ≢ Usage
-one_not_usage reason is e = elim is [ inl why ↦ why_differs why.0 Usage (λ code e. cc) (λ e. cc) (sym why.1 ∙ e) | inr fault ↦ load_fault_usage reason fault e ]
+  journal_of_none : (words : List (List ℕ)) (files : Files) (boot : Boot) (entries : List Entry) → entries ≡ [] → IsVerdict words files (Runs boot) → IsJournal boot entries
+  journal_of_none words files boot entries nothing verdict =
+      let found = boot_of_command files boot (line words) verdict in
+      subst (λ (es : List Entry). IsJournal boot es) (sym nothing) (subst (λ (b : Boot). IsJournal b []) (sym found.2) (empty_journal found.0 found.1 found.3))
 
-pub one_not_memory : (reason : Reason) → IsOneReason reason → reason ≢ BadProgram NoMemory
-one_not_memory reason is e = elim is [ inl why ↦ why_differs why.0 (BadProgram NoMemory) (λ code e. cc) (λ e. cc) (sym why.1 ∙ e) | inr fault ↦ load_fault_memory reason fault e ]
+-- ---- what the answer says of the verdict
 
-pub one_not_write : (reason : Reason) → IsOneReason reason → reason ≢ WriteFault
-one_not_write reason is e = elim is [ inl why ↦ why_differs why.0 WriteFault (λ code e. cc) (λ e. cc) (sym why.1 ∙ e) | inr fault ↦ load_fault_write reason fault e ]
+runs_same : (a b : Boot) → Runs a ≡ Runs b → a ≡ b
+runs_same a b is = cc
 
--- ---- packing
+run_ended : (boot : Boot) (entries : List Entry) (how : Why) → EndsSo boot entries how → IsFailure (reason_of how) ⊎ RunEnds boot entries (reason_of how)
+run_ended boot entries (why.Exited code) ends = inr ends
+run_ended boot entries (why.Killed signal) ends = inr ends
+run_ended boot entries (why.JournalFull pid tid ran weight) ends = inr ends
+run_ended boot entries why.Memory ends = inl (inr (inr refl))
 
-module _ (verdict : PackVerdict) (told : Option (Option (List ℕ))) where
-  packed_not_exited : (reason : Reason) → PackedAs verdict told reason → (code : ℕ) → reason ≢ Exited code
-  packed_not_exited (Exited c) is code e = is
-  packed_not_exited Usage is code e = is
-  packed_not_exited ShelfFault is code e = cc
-  packed_not_exited TooLong is code e = cc
-  packed_not_exited (BadList line) is code e = cc
-  packed_not_exited Done is code e = cc
-  packed_not_exited (BadProgram fault) is code e = is
-  packed_not_exited WriteFault is code e = is
-  packed_not_exited Memory is code e = cc
+module _ (words : List (List ℕ)) (told : Option Files) (entries : List Entry) where
+  -- the answer's verdict, where nothing failed
+  settled : (first : Reason) → Serves words told first entries → IsFailure first ⊎ ((verdict : Verdict) × HasVerdict words told verdict × Follows verdict first entries)
+  settled first (NoCommand none usage nothing) =
+      inr (
+        Refuses Usage,
+        record {
+          is = λ files held. subst (λ (c : Option Command). OfCommand c files (Refuses Usage)) (sym none) refl;
+          only = λ files other held of. subst (λ (c : Option Command). OfCommand c files other) none of;
+        },
+        usage,
+      )
+  settled first (Failed command is fault nothing) = inl (elim fault [ inl shelf ↦ inl shelf | inr memory ↦ inr (inr memory) ])
+  settled first (Refused command is has refusal nothing) = inr (Refuses first, has, refl)
+  settled first (Written command is name bytes has done nothing) = inr (Writes name bytes, has, done)
+  settled first (Ran how is begun ends) =
+      subst (λ (r : Reason). IsFailure r ⊎ ((verdict : Verdict) × HasVerdict words told verdict × Follows verdict r entries)) (sym is)
+      (elim (run_ended (one_boot begun.bytes) entries how ends) [ inl failed ↦ inl failed | inr ended ↦ inr (Runs (one_boot begun.bytes), begun.verdict, ended) ])
 
-  packed_not_bad : (reason : Reason) (fault : ThinFault) → PackedAs verdict told reason → reason ≢ BadProgram fault
-  packed_not_bad (Exited c) fault is e = is
-  packed_not_bad Usage fault is e = is
-  packed_not_bad ShelfFault fault is e = cc
-  packed_not_bad TooLong fault is e = cc
-  packed_not_bad (BadList line) fault is e = cc
-  packed_not_bad Done fault is e = cc
-  packed_not_bad (BadProgram f) fault is e = is
-  packed_not_bad WriteFault fault is e = is
-  packed_not_bad Memory fault is e = cc
+  -- no run was begun, or there is what it left
+  begun_first : (first : Reason) → Serves words told first entries → IsUnbegun first entries ⊎ Begun words told first entries
+  begun_first first (NoCommand none usage nothing) = inl (nothing, inr (inl usage))
+  begun_first first (Failed command is fault nothing) = inl (nothing, inl (elim fault [ inl shelf ↦ inl shelf | inr memory ↦ inr (inr memory) ]))
+  begun_first first (Refused command is has refusal nothing) = inl (nothing, inr (inr (inl refusal)))
+  begun_first first (Written command is name bytes has done nothing) = inl (nothing, inr (inr (inr done)))
+  begun_first first (Ran how is begun ends) = inr begun
 
-  -- the reason of a verdict that refuses
-  packed_refused : (reason expected : Reason) → (expected ≡ TooLong) ⊎ ((number : ℕ) × (expected ≡ BadList number)) → PackedAs verdict told reason → ExactlyWhere reason expected (verdict ≡ Refused expected)
-  packed_refused (Exited c) expected which is = absurd is
-  packed_refused Usage expected which is = absurd is
-  packed_refused ShelfFault expected which is = ((λ e. absurd (elim which [ inl long ↦ (let never : ⊥ = cc in never) | inr bad ↦ (let b = bad.1 in let never : ⊥ = cc in never) ])), (λ v sound room. absurd (sound refl)))
-  packed_refused TooLong expected which is = ((λ e. is ∙ ap Refused e), (λ v sound room. (let both : Refused TooLong ≡ Refused expected = sym is ∙ v in cc)))
-  packed_refused (BadList line) expected which is = ((λ e. is ∙ ap Refused e), (λ v sound room. (let both : Refused (BadList line) ≡ Refused expected = sym is ∙ v in cc)))
-  packed_refused Done expected which is = ((λ e. absurd (elim which [ inl long ↦ (let never : ⊥ = cc in never) | inr bad ↦ (let b = bad.1 in let never : ⊥ = cc in never) ])), (λ v sound room. absurd (let w = is.1 in let never : ⊥ = cc in never)))
-  packed_refused (BadProgram f) expected which is = absurd is
-  packed_refused WriteFault expected which is = absurd is
-  packed_refused Memory expected which is = ((λ e. absurd (elim which [ inl long ↦ (let never : ⊥ = cc in never) | inr bad ↦ (let b = bad.1 in let never : ⊥ = cc in never) ])), (λ v sound room. absurd (room refl)))
+  left_first : (first : Reason) → Serves words told first entries → (files : Files) (boot : Boot) → told ≡ Some files → IsVerdict words files (Runs boot) → Left boot first entries
+  left_first first (NoCommand none usage nothing) files boot held is =
+      absurd (let e : Runs boot ≡ Refuses Usage = subst (λ (c : Option Command). OfCommand c files (Runs boot)) none is in let never : ⊥ = cc in never)
+  left_first first (Failed command found fault nothing) files boot held is = Unbegun nothing (elim fault [ inl shelf ↦ inl shelf | inr memory ↦ inr (inr memory) ])
+  left_first first (Refused command found has refusal nothing) files boot held is = absurd (let e = has.only files (Runs boot) held is in let never : ⊥ = cc in never)
+  left_first first (Written command found name bytes has done nothing) files boot held is = absurd (let e = has.only files (Runs boot) held is in let never : ⊥ = cc in never)
+  left_first first (Ran how told_as begun ends) files boot held is =
+      subst (λ (b : Boot). Left b first entries) (sym (runs_same boot (one_boot begun.bytes) (begun.verdict.only files (Runs boot) held is))) begun.left
 
-  -- the reason of a verdict that writes
-  packed_done : (reason : Reason) → PackedAs verdict told reason → ExactlyWhere reason Done ((image : List ℕ) × (verdict ≡ Writes image))
-  packed_done (Exited c) is = absurd is
-  packed_done Usage is = absurd is
-  packed_done ShelfFault is = ((λ e. absurd (let never : ⊥ = cc in never)), (λ v sound room. absurd (sound refl)))
-  packed_done TooLong is = ((λ e. absurd (let never : ⊥ = cc in never)), (λ v sound room. absurd (let w = v.1 in let never : ⊥ = cc in never)))
-  packed_done (BadList line) is = ((λ e. absurd (let never : ⊥ = cc in never)), (λ v sound room. absurd (let w = v.1 in let never : ⊥ = cc in never)))
-  packed_done Done is = ((λ e. (is.0, is.1)), (λ v sound room. refl))
-  packed_done (BadProgram f) is = absurd is
-  packed_done WriteFault is = absurd is
-  packed_done Memory is = ((λ e. absurd (let never : ⊥ = cc in never)), (λ v sound room. absurd (room refl)))
+  left_faulted : (boot : Boot) (first reason : Reason) → reason ≡ WriteFault → first ≢ Memory → Left boot first entries → Left boot reason entries
+  left_faulted boot first reason e room (Unbegun nothing failed) = Unbegun nothing (inr (inl e))
+  left_faulted boot first reason e room (Ended end ends either) = Ended end ends (inr e)
+  left_faulted boot first reason e room (OutOfMemory memory ends) = absurd (room memory)
 
-  pub told_done : (reason : Reason) → PackedAs verdict told reason → reason ≡ Done → (image : List ℕ) × (verdict ≡ Writes image) × (told ≡ Some (Some image))
-  told_done reason is e = subst (PackedAs verdict told) e is
-
-module _ (words : List (List ℕ)) (files : Files) (list out : List ℕ) (command : line words ≡ Some (Pack list out)) where
-  -- the words' list has one verdict
-  its_verdict : (verdict : PackVerdict) → Packs words files verdict → pack_verdict files list ≡ verdict
-  its_verdict verdict packs =
-      let both : Some (Pack packs.list packs.out) ≡ Some (Pack list out) = sym packs.command ∙ command in
-      let same : packs.list ≡ list = cc in
-      ap (pack_verdict files) (sym same) ∙ packs.judged
-
-  has_verdict : (verdict : PackVerdict) → pack_verdict files list ≡ verdict → Packs words files verdict
-  has_verdict verdict is = record { list = list; out = out; command = command; judged = is }
-
-  pub serves_packed : (told : Option (Option (List ℕ))) (reason : Reason) → PackedAs (pack_verdict files list) told reason → Serves words files reason []
-  serves_packed told reason is =
-      let verdict = pack_verdict files list in
-      let long = packed_refused verdict told reason TooLong (inl refl) is in
-      let whole = packed_done verdict told reason is in
-      record {
-        run = nothing_run words files;
-        replies = λ boot boots. no_replies boot;
-        order = λ boot boots. no_stops boot;
-        exited = λ code. ((λ e. absurd (packed_not_exited verdict told reason is code e)), (λ ends. absurd (no_end words files (ExitedEnd code) ends)));
-        too_long = (
-          (λ e. inr (has_verdict (Refused TooLong) (long.0 e))),
-          (λ c sound room. elim c [ inl program ↦ absurd (no_program words files list out program.0 command program.1) | inr packs ↦ long.1 (its_verdict (Refused TooLong) packs) sound room ]),
-        );
-        malformed = neither reason (BadProgram Malformed) (IsMalformed words files) (packed_not_bad verdict told reason Malformed is) (λ c. no_program words files list out c.0 command c.1);
-        not_yet = neither reason (BadProgram NotYet) (IsNotYet words files) (packed_not_bad verdict told reason NotYet is) (λ c. no_program words files list out c.0 command c.1);
-        done = ((λ e. (let w = whole.0 e in (w.0, has_verdict (Writes w.0) w.1))), (λ c sound room. whole.1 (c.0, its_verdict (Writes c.0) c.1) sound room));
-        bad_list = λ number. (let bad = packed_refused verdict told reason (BadList number) (inr (number, refl)) is in (
-          (λ e. has_verdict (Refused (BadList number)) (bad.0 e)),
-          (λ c sound room. bad.1 (its_verdict (Refused (BadList number)) c) sound room),
-        ));
-        complete = λ boot boots sound. absurd (no_program words files list out boots.bytes command boots.names);
-      }
-
--- ---- the reason that is told at the end
-
--- it is the one before, or a sink's fault
-pub comes_unwritten : (before told expected : Reason) (cause : Type 0) → ((told ≡ before) ⊎ (told ≡ WriteFault)) → expected ≢ WriteFault → (before ≡ expected) ↔ cause → ComesUnwritten told expected cause
-comes_unwritten before told expected cause either other exact =
-    elim either [
-      | inl same ↦ ((λ e. exact.0 (sym same ∙ e)), (λ c sound. same ∙ exact.1 c))
-      | inr fault ↦ ((λ e. absurd (other (sym e ∙ fault))), (λ c sound. absurd (sound fault)))
+  module _ (first reason : Reason) (serves : Serves words told first entries) (said : IsToldAs first reason) where
+    told_settled : IsFailure reason ⊎ ((verdict : Verdict) × HasVerdict words told verdict × Follows verdict reason entries)
+    told_settled = elim said [
+      | inl same ↦ subst (λ (r : Reason). IsFailure r ⊎ ((verdict : Verdict) × HasVerdict words told verdict × Follows verdict r entries)) (sym same) (settled first serves)
+      | inr fault ↦ inl (inr (inl fault.0))
     ]
 
-pub run_told : (before told : Reason) → ((told ≡ before) ⊎ (told ≡ WriteFault)) → told ≢ WriteFault → IsRun before → IsRun told
-run_told before told either sound is =
-    elim either [
-      | inl same ↦ subst IsRun (sym same) is
-      | inr fault ↦ absurd (sound fault)
+    pub by_cause : (files : Files) → told ≡ Some files → IsFailure reason ⊎ ((verdict : Verdict) × IsVerdict words files verdict × Follows verdict reason entries)
+    by_cause files held = elim told_settled [
+      | inl failed ↦ inl failed
+      | inr has ↦ inr (has.0, has.1.is files held, has.2)
     ]
 
--- the same where it may have been another failure before
-pub comes_where : (before told expected : Reason) (cause : Type 0) → ((told ≡ before) ⊎ (told ≡ WriteFault)) → expected ≢ WriteFault → ExactlyWhere before expected cause → ComesWhere told expected cause
-comes_where before told expected cause either other exact =
-    elim either [
-      | inl same ↦ ((λ e. exact.0 (sym same ∙ e)), (λ c shelf sound room. same ∙ exact.1 c (λ e. shelf (same ∙ e)) (λ e. room (same ∙ e))))
-      | inr fault ↦ ((λ e. absurd (other (sym e ∙ fault))), (λ c shelf sound room. absurd (sound fault)))
+    -- what is left of a run stays, with the reason that is told
+    left_told : (boot : Boot) → Left boot first entries → Left boot reason entries
+    left_told boot left = elim said [
+      | inl same ↦ subst (λ (r : Reason). Left boot r entries) (sym same) left
+      | inr fault ↦ left_faulted boot first reason fault.0 fault.1 left
     ]
 
--- what was told at the end as done was done before
-pub done_before : (before told : Reason) → ((told ≡ before) ⊎ (told ≡ WriteFault)) → told ≡ Done → before ≡ Done
-done_before before told either e = elim either [ inl same ↦ sym same ∙ e | inr fault ↦ absurd (let both : WriteFault ≡ Done = sym fault ∙ e in let never : ⊥ = cc in never) ]
+    pub by_left : (files : Files) (boot : Boot) → told ≡ Some files → IsVerdict words files (Runs boot) → Left boot reason entries
+    by_left files boot held is = left_told boot (left_first first serves files boot held is)
 
-done_or_memory : (verdict : PackVerdict) (told : Option (Option (List ℕ))) (image : List ℕ) (reason : Reason) → PackedAs verdict told reason → verdict ≡ Writes image → reason ≢ ShelfFault → (reason ≡ Done) ⊎ (reason ≡ Memory)
-done_or_memory verdict told image (Exited code) is v sound = absurd is
-done_or_memory verdict told image Usage is v sound = absurd is
-done_or_memory verdict told image ShelfFault is v sound = absurd (sound refl)
-done_or_memory verdict told image TooLong is v sound = absurd (let never : ⊥ = cc in never)
-done_or_memory verdict told image (BadList line) is v sound = absurd (let never : ⊥ = cc in never)
-done_or_memory verdict told image Done is v sound = inl refl
-done_or_memory verdict told image (BadProgram fault) is v sound = absurd is
-done_or_memory verdict told image WriteFault is v sound = absurd is
-done_or_memory verdict told image Memory is v sound = inr refl
-
--- where nothing failed, a right list was packed, or memory ran out
-pub packed_or_memory : (verdict : PackVerdict) (held : Option (Option (List ℕ))) (image : List ℕ) (before told : Reason) → ((told ≡ before) ⊎ (told ≡ WriteFault)) → told ≢ WriteFault → PackedAs verdict held before → verdict ≡ Writes image → before ≢ ShelfFault → (told ≡ Done) ⊎ (told ≡ Memory)
-packed_or_memory verdict held image before told either unwritten is v sound =
-    elim either [
-      | inl same ↦ subst (λ (r : Reason). (r ≡ Done) ⊎ (r ≡ Memory)) (sym same) (done_or_memory verdict held image before is v sound)
-      | inr fault ↦ absurd (unwritten fault)
+    pub by_begun : IsUnbegun reason entries ⊎ Begun words told reason entries
+    by_begun = elim (begun_first first serves) [
+      | inl nothing ↦ inl (elim said [
+        | inl same ↦ subst (λ (r : Reason). IsUnbegun r entries) (sym same) nothing
+        | inr fault ↦ (nothing.0, inl (inr (inl fault.0)))
+      ])
+      | inr begun ↦ inr (record {
+        file = begun.file;
+        bytes = begun.bytes;
+        command = begun.command;
+        short = begun.short;
+        verdict = begun.verdict;
+        journal = begun.journal;
+        left = left_told (one_boot begun.bytes) begun.left;
+      })
     ]
+
+    pub without_boot : (files : Files) → told ≡ Some files → ((boot : Boot) → IsVerdict words files (Runs boot) → ⊥) → entries ≡ []
+    without_boot files held none = elim (begun_first first serves) [
+      | inl nothing ↦ nothing.0
+      | inr begun ↦ absurd (none (one_boot begun.bytes) (begun.verdict.is files held))
+    ]
+
+    pub by_journal : RunsAreJournals → OneFileIsThere → (files : Files) (boot : Boot) → told ≡ Some files → IsVerdict words files (Runs boot) → IsJournal boot entries
+    by_journal law there files boot held is = elim (begun_first first serves) [
+      | inl nothing ↦ journal_of_none law there words files boot entries nothing.0 is
+      | inr begun ↦ subst (λ (b : Boot). IsJournal b entries) (sym (runs_same boot (one_boot begun.bytes) (begun.verdict.only files (Runs boot) held is))) begun.journal
+    ]
+
+-- ---- the shelf
+
+-- the name that is told at the end holds what it held
+pub wrote_told : (words : List (List ℕ)) (before after : Option Files) (count now : ℕ) (first reason : Reason) → IsToldAs first reason → Keeps words before after count now first → Keeps words before after count now reason
+wrote_told words before after count now first reason said keeps = elim said [
+  | inl same ↦ subst (λ (r : Reason). Keeps words before after count now r) (sym same) keeps
+  | inr fault ↦ elim keeps [
+    | inl kept ↦ inl (kept.0, (λ e. (let w = fault.0 in let never : ⊥ = cc in never)))
+    | inr wrote ↦ inr (record {
+      name = wrote.name;
+      bytes = wrote.bytes;
+      verdict = wrote.verdict;
+      tells = wrote.tells;
+      others = wrote.others;
+      written = λ sound files held. wrote.written (elim sound [ inl done ↦ absurd (let w = fault.0 in let never : ⊥ = cc in never) | inr unmoved ↦ inr unmoved ]) files held;
+      reasons = inr (inr fault.0);
+    })
+  ]
+]
+
+-- a run leaves the shelf as it was
+not_shelf : (how : Why) → reason_of how ≢ ShelfFault
+not_shelf (why.Exited code) e = cc
+not_shelf (why.Killed signal) e = cc
+not_shelf (why.JournalFull pid tid ran weight) e = cc
+not_shelf why.Memory e = cc
+
+not_done : (how : Why) → reason_of how ≢ Done
+not_done (why.Exited code) e = cc
+not_done (why.Killed signal) e = cc
+not_done (why.JournalFull pid tid ran weight) e = cc
+not_done why.Memory e = cc
+
+pub ran_counts : (how : Why) (reason : Reason) (count now : ℕ) → reason ≡ reason_of how → now ≡ count → ShelfCounts reason count now
+ran_counts how reason count now same still = record {
+  never_falls = omega arith;
+  fault = λ e. absurd (not_shelf how (sym same ∙ e));
+  rose = λ rose. absurd (let never : ⊥ = omega arith in never);
+}
+
+pub ran_keeps : (words : List (List ℕ)) (before after : Option Files) (count now : ℕ) (how : Why) (reason : Reason) → reason ≡ reason_of how → after ≡ before → Keeps words before after count now reason
+ran_keeps words before after count now how reason same kept = inl (kept, (λ e. not_done how (sym same ∙ e)))

@@ -1,10 +1,11 @@
 pub mod Line
 pub mod Commands
 pub mod Status
-pub mod Outside
+pub mod Texts
+pub mod Verdict
 pub mod Packing
-pub mod Causes
+pub mod Judging
 pub mod Loading
 pub mod Serves
 pub mod Printed
-pub mod Texts
+pub mod Outside

@@ -1,6 +1,8 @@
 //! The top calls of the host: words, files and streams in, a journal and an exit status out.
 #![tactic(auto)]
 
+mod asm;
+mod file_fault;
 mod file_shelf;
 mod line;
 mod load;

@@ -11,6 +11,8 @@ pub enum Command<'a> {
     One(&'a str),
     /// `pack LIST OUT`: the image of the list in the first file is written under the second name.
     Pack(&'a str, &'a str),
+    /// `asm TEXT OUT`: the module of the text in the first file is written under the second name.
+    Asm(&'a str, &'a str),
 }
 
 /// The command that the words are; `None` where they are none.
@@ -21,6 +23,9 @@ pub fn command_of(words: &[String]) -> Option<Command<'_>>
         [word, file] if word.as_str() == "one" => Some(Command::One(file.as_str())),
         [word, list, out] if word.as_str() == "pack" => {
             Some(Command::Pack(list.as_str(), out.as_str()))
+        }
+        [word, text, out] if word.as_str() == "asm" => {
+            Some(Command::Asm(text.as_str(), out.as_str()))
         }
         _ => None,
     }

@@ -1,31 +1,36 @@
 // The top call that runs everything on one thread, and returns.
-ghost use Rattle.std.specs.Prelude.{◌≡◌, ◌≢◌, ◌<◌, ◌≤◌, ◌↔◌, ◌⊎◌, ◌++◌, ℕ, List, [], map, string_bytes, Some, None};
-ghost use Rattle.wx_types.specs.Files.{Files, told_file};
-ghost use Rattle.wx_types.specs.Outside.{Rose, followed_by, GrewByFront};
+ghost use Rattle.std.specs.Prelude.{◌≡◌, ◌≢◌, ◌<◌, ◌≤◌, ◌⊎◌, ◌++◌, ◌↔◌, ℕ, List, [], map, string_bytes, Option, Some, None, is_some, Ok, IfSome};
+ghost use Rattle.wx_types.specs.Files.{Files, told_file, file_named};
+ghost use Rattle.wx_types.specs.Outside.{Rose};
+ghost use Rattle.instance.specs.Loads.{Loads};
+ghost use Rattle.instance.specs.declared.fault.LoadFault.{LoadFault as Fault};
+ghost use Rattle.world_step.specs.Boot.{Boot};
+ghost use Rattle.world_step.specs.Journal.{IsJournal};
+ghost use Rattle.runner.specs.One.{EndsSo};
 ghost use Rattle.wasix_run.specs.Printed.{printed};
 ghost use Rattle.wasix_run.specs.Texts.{text_of};
-ghost use Rattle.runner.specs.Kernel.{Exited};
-ghost use Rattle.runner.specs.Boot.{Boot};
-ghost use Rattle.runner.specs.Run.{Run, EachReply, InOrder};
-ghost use Rattle.wasix_run.specs.Line.{One, Pack, line};
-ghost use Rattle.wasix_run.specs.Packing.{Writes, PackedAs, pack_verdict};
 ghost use Rattle.wasix_run.specs.Status.{status_of};
-ghost use Rattle.wasix_run.specs.Outside.{Boots, RunEnds};
-ghost use Rattle.wasix_run.specs.Serves.{Serves, IsRun, IsOneReason, reason_of};
-ghost use Rattle.runner.specs.Ran.{Ran};
-ghost use Rattle.wasix_run.specs.Causes.{ComesWhere, ComesUnwritten, IsTooLong, IsMalformed, IsNotYet, IsDone, IsBadList, Packs, IsRefusal};
+ghost use Rattle.wasix_run.specs.Line.{Command as Words, line};
+ghost use Rattle.wasix_run.specs.Verdict.{Verdict, Runs, Writes};
+ghost use Rattle.wasix_run.specs.Judging.{IsVerdict, HasVerdict, one_boot};
+ghost use Rattle.wasix_run.specs.Serves.{IsFailure, Follows, Left, Begun, IsUnbegun, IsToWrite, Keeps, Serves, reason_of};
+ghost use Rattle.wasix_run.specs.Loading.{CountsRead};
+ghost use Rattle.wasix_run.specs.Outside.{Took, ShelfCounts, SinkCounts, IsText};
 
+use crate::asm::module_bytes;
+use crate::file_fault::{FileFault, fault_reason};
 use crate::line::{Command, command_of};
-use crate::load::load;
-use crate::pack::pack;
+use crate::load::{load, program_reason};
+use crate::pack::image_bytes;
 use crate::print::Stream;
 use crate::reason::Reason;
 use crate::report::report;
+use instance::{LoadFault, Program};
 use runner::journal::Journal;
-use runner::one::{Finished, Why, run_one};
+use runner::one::{DEFAULT_FUEL, DEFAULT_SLICE, Finished, Why, run_one};
 use std::alloc::Global;
-use wasm_decode::{Thin, ThinFault};
-use wx_types::{Shelf, Sink, Source};
+use world_step::{one_file_is_there, runs_are_journals};
+use wx_types::{Bytes, Shelf, Sink, Source};
 
 /// What a top call leaves: why it ended and the exit status that tells it, the history, and the objects that it was
 /// given.
@@ -45,6 +50,7 @@ fn make_ended<I, O, E>(reason: Reason, journal: Journal, input: I, out: O, err: 
     ensures reason { result.reason ≡ reason }
     ensures status { result.status ≡ status_of reason }
     ensures journal { result.journal ≡ journal }
+    ensures input { result.input ≡ input }
     ensures out { result.out ≡ out }
     ensures err { result.err ≡ err }
 {
@@ -64,6 +70,18 @@ fn run_reason(why: Why) -> Reason
 {
     match why {
         Why::Exited(code) => Reason::Exited(code),
+        Why::Killed(signal) => Reason::Killed(signal),
+        Why::JournalFull {
+            pid,
+            tid,
+            ran,
+            weight,
+        } => Reason::JournalFull {
+            pid,
+            tid,
+            ran,
+            weight,
+        },
         Why::Memory => Reason::Memory,
     }
 }
@@ -76,7 +94,7 @@ struct Answer {
 }
 
 // the answer where no run was begun
-fn refusal(alloc: Global, reason: Reason) -> Answer
+fn without_run(alloc: Global, reason: Reason) -> Answer
     ensures reason { result.reason ≡ reason }
     ensures journal { result.journal ≡ [] }
 {
@@ -86,56 +104,83 @@ fn refusal(alloc: Global, reason: Reason) -> Answer
     }
 }
 
-// the run of a program, from any boot of it
-fn run(alloc: Global, program: &Thin) -> Answer
-    ensures { (why : Why) × (result.reason ≡ reason_of why) × Ran program.now why result.journal }
+// the run of a program, from the boot of any bytes of it
+fn run(alloc: Global, program: &Program) -> Answer
+    ensures { (why : Why) × (result.reason ≡ reason_of why)
+        × ((bytes : List ℕ) → Loads bytes (Ok program.now) → IsJournal (one_boot bytes) result.journal × EndsSo (one_boot bytes) result.journal why) }
 {
-    let Finished { why, journal } = run_one(alloc, program);
+    one_file_is_there();
+    let Finished { why, journal } = run_one(alloc, program, DEFAULT_SLICE, DEFAULT_FUEL);
     Answer {
         reason: run_reason(why),
         journal,
     }
 }
 
-// the answer to `one FILE`
-fn serve_one<H: Shelf>(alloc: Global, shelf: &mut H, file: &str) -> Answer
-    ensures told { (files : Files) (words : List (List ℕ)) → H.held shelf.old ≡ Some files → line words ≡ Some (One file.now) → Serves words files result.reason result.journal }
-    ensures kind { IsOneReason result.reason }
-    ensures shelf_fault { result.reason ≡ Reason.ShelfFault → Rose (H.faults shelf.old) (H.faults shelf.new) }
-    ensures shelf_rose { H.faults shelf.old < H.faults shelf.new → (result.reason ≡ Reason.ShelfFault) ⊎ (result.reason ≡ Reason.Memory) }
-    ensures shelf_never_falls { H.faults shelf.old ≤ H.faults shelf.new }
-    ensures unbegun { IsRefusal result.reason → result.journal ≡ [] }
+// the bytes put under the name
+fn write<H: Shelf>(shelf: &mut H, name: &str, bytes: &[u8]) -> Reason
+    ensures either { (result ≡ Reason.Done) ⊎ (result ≡ Reason.ShelfFault) }
+    ensures never_falls { H.faults shelf.old ≤ H.faults shelf.new }
+    ensures no_fault { result ≡ Reason.Done → H.faults shelf.new ≡ H.faults shelf.old }
+    ensures fault { result ≡ Reason.ShelfFault → Rose (H.faults shelf.old) (H.faults shelf.new) }
+    ensures tells { is_some (H.held shelf.new) ≡ is_some (H.held shelf.old) }
+    ensures others { (other : List ℕ) → other ≢ name.now → told_file (H.held shelf.new) other ≡ told_file (H.held shelf.old) other }
+    ensures written { result ≡ Reason.Done → IfSome (H.held shelf.new) (λ files. file_named files name.now ≡ Some bytes.now) }
 {
-    match load(alloc, shelf, file) {
-        Ok(program) => run(alloc, &program),
-        Err(reason) => refusal(alloc, reason),
+    match shelf.write(name, bytes) {
+        Ok(()) => Reason::Done,
+        Err(_) => Reason::ShelfFault,
+    }
+}
+
+// the answer where these bytes are to be put under the name, or there are none for this reason
+fn written<H: Shelf>(
+    alloc: Global,
+    shelf: &mut H,
+    name: &str,
+    bytes: Result<Bytes, FileFault>,
+) -> Answer
+    ensures serves { (words : List (List ℕ)) (told : Option Files) (command : Words) → line words ≡ Some command → IsToWrite words told name.now bytes → Serves words told result.reason result.journal }
+    ensures counts { (before : ℕ) → before ≤ H.faults shelf.old → CountsRead bytes before (H.faults shelf.old) → ShelfCounts result.reason before (H.faults shelf.new) }
+    ensures shelf { (words : List (List ℕ)) (before : ℕ) → before ≤ H.faults shelf.old → IsToWrite words (H.held shelf.old) name.now bytes
+        → Keeps words (H.held shelf.old) (H.held shelf.new) before (H.faults shelf.new) result.reason }
+{
+    match bytes {
+        Ok(bytes) => without_run(alloc, write(shelf, name, bytes.as_slice())),
+        Err(fault) => without_run(alloc, fault_reason(fault)),
     }
 }
 
 // the answer to the words
 fn serve<H: Shelf>(alloc: Global, words: &[String], shelf: &mut H) -> Answer
-    ensures told { (files : Files) → H.held shelf.old ≡ Some files → Serves (map string_bytes words.now) files result.reason result.journal }
-    ensures packed { (files : Files) (list out : List ℕ) → H.held shelf.old ≡ Some files → line (map string_bytes words.now) ≡ Some (Pack list out) → PackedAs (pack_verdict files list) (told_file (H.held shelf.new) out) result.reason }
-    ensures usage { (result.reason ≡ Reason.Usage) ↔ (line (map string_bytes words.now) ≡ None) }
-    ensures shelf_fault { result.reason ≡ Reason.ShelfFault → Rose (H.faults shelf.old) (H.faults shelf.new) }
-    ensures shelf_rose { H.faults shelf.old < H.faults shelf.new → (result.reason ≡ Reason.ShelfFault) ⊎ (result.reason ≡ Reason.Memory) }
-    ensures shelf_never_falls { H.faults shelf.old ≤ H.faults shelf.new }
-    ensures no_other_fault { result.reason ≢ Reason.BadProgram ThinFault.Memory }
-    ensures unwritten { result.reason ≢ Reason.WriteFault }
-    ensures unbegun { IsRefusal result.reason → result.journal ≡ [] }
+    ensures serves { Serves (map string_bytes words.now) (H.held shelf.old) result.reason result.journal }
+    ensures counts { ShelfCounts result.reason (H.faults shelf.old) (H.faults shelf.new) }
+    ensures shelf { Keeps (map string_bytes words.now) (H.held shelf.old) (H.held shelf.new) (H.faults shelf.old) (H.faults shelf.new) result.reason }
 {
     match command_of(words) {
-        None => refusal(alloc, Reason::Usage),
-        Some(Command::One(file)) => serve_one(alloc, shelf, file),
-        Some(Command::Pack(list, out)) => refusal(alloc, pack(alloc, shelf, list, out)),
+        None => without_run(alloc, Reason::Usage),
+        Some(Command::One(file)) => match load(alloc, shelf, file) {
+            Ok(program) => run(alloc, &program),
+            Err(fault) => without_run(alloc, program_reason(fault)),
+        },
+        Some(Command::Pack(list, out)) => {
+            let bytes = image_bytes(alloc, shelf, list);
+            written(alloc, shelf, out, bytes)
+        }
+        Some(Command::Asm(text, out)) => {
+            let bytes = module_bytes(alloc, shelf, text);
+            written(alloc, shelf, out, bytes)
+        }
     }
 }
 
 /// Runs the command that the words are, and returns.
 ///
-/// `pack LIST OUT` writes the image of the list in LIST under OUT. `one FILE` runs the program in FILE as process 1. The refusals are tested in the order of the words, the shelf's
-/// read, the length of the file and the program; where one of them comes no run is begun and the journal is empty. What the run
-/// printed is written from the history: output first, then errors, also where the output failed, and then the text of the reason.
+/// `one FILE` runs the program in FILE as process 1, `pack LIST OUT` writes the image of the list in LIST under OUT, and `asm TEXT
+/// OUT` the module of the text in TEXT. The refusals are tested in the order of the words, the shelf's reads, the lengths of the
+/// files, and the list, the text or the program; where one of them comes no run is begun, nothing is written, and the journal is
+/// empty. What the run printed is written from the history: output first, then errors, also where the output failed, and then the
+/// text of the reason.
 pub fn wasix_serial<H: Shelf, I: Source, O: Sink, E: Sink>(
     alloc: Global,
     words: &[String],
@@ -144,55 +189,54 @@ pub fn wasix_serial<H: Shelf, I: Source, O: Sink, E: Sink>(
     out: O,
     err: E,
 ) -> Ended<I, O, E>
-    // The journal is a run of the model from the boot that words and shelf determine.
-    ensures run { (files : Files) (boot : Boot) → H.held shelf.old ≡ Some files → Boots (map string_bytes words.now) files boot → Run boot result.journal }
-    // Each entry's call, outcome and signal are the model's in the world before it.
-    ensures replies { (files : Files) (boot : Boot) → H.held shelf.old ≡ Some files → Boots (map string_bytes words.now) files boot → EachReply boot result.journal }
-    // Each guest thread's stops are in the journal in their order, none left out and none twice.
-    ensures order { (files : Files) (boot : Boot) → H.held shelf.old ≡ Some files → Boots (map string_bytes words.now) files boot → InOrder boot result.journal }
+    // Whatever words and files come to, the reason is that or the run's end, unless an object of the outside failed or memory ran out.
+    ensures verdict { (files : Files) (verdict : Verdict) → H.held shelf.old ≡ Some files → IsVerdict (map string_bytes words.now) files verdict → Follows verdict result.reason result.journal ⊎ IsFailure result.reason }
+    // And a reason comes only where words and files come to it.
+    ensures cause { (files : Files) → H.held shelf.old ≡ Some files → IsFailure result.reason ⊎ ((verdict : Verdict) × IsVerdict (map string_bytes words.now) files verdict × Follows verdict result.reason result.journal) }
+    // Where no count of faults rose, it is the verdict's reason or the run's end, or memory ran out.
+    ensures complete { (files : Files) (verdict : Verdict) → H.held shelf.old ≡ Some files → IsVerdict (map string_bytes words.now) files verdict
+        → (Rose (H.faults shelf.old) (H.faults shelf.new) → ⊥) → (Rose (O.faults out) (O.faults result.out) → ⊥) → (Rose (E.faults err) (E.faults result.err) → ⊥)
+        → Follows verdict result.reason result.journal ⊎ (result.reason ≡ Reason.Memory) }
+    // Without the files, the words alone say where they are no command.
+    ensures usage { (result.reason ≡ Reason.Usage → line (map string_bytes words.now) ≡ None)
+        × (line (map string_bytes words.now) ≡ None → (result.reason ≡ Reason.Usage) ⊎ (result.reason ≡ Reason.WriteFault)) }
+    ensures no_other_fault { result.reason ≢ Reason.BadProgram Fault.Memory }
     ensures status { result.status ≡ status_of result.reason }
 
-    // A sink that didn't fail took all that the history prints to it, and the other a front of that.
-    ensures output { (Rose (O.faults out) (O.faults result.out) → ⊥) → O.taken result.out ≡ followed_by (O.taken out) (printed Stream.Output result.journal) }
-    ensures output_front { GrewByFront (O.taken out) (O.taken result.out) (printed Stream.Output result.journal) }
-    // Where no sink failed, the text of the reason stands behind the errors.
-    ensures errors { (Rose (O.faults out) (O.faults result.out) → ⊥) → (Rose (E.faults err) (E.faults result.err) → ⊥) → E.taken result.err ≡ followed_by (E.taken err) (printed Stream.Errors result.journal ++ text_of result.reason) }
-    ensures errors_but_text { (Rose (E.faults err) (E.faults result.err) → ⊥) → (reason : Reason) × ((E.taken result.err ≡ followed_by (E.taken err) (printed Stream.Errors result.journal)) ⊎ (E.taken result.err ≡ followed_by (E.taken err) (printed Stream.Errors result.journal ++ text_of reason))) }
-    // After a stream that failed, the errors have taken no text: the output was written first.
-    ensures errors_without_text { result.reason ≡ Reason.WriteFault → (Rose (E.faults err) (E.faults result.err) → ⊥) → E.taken result.err ≡ followed_by (E.taken err) (printed Stream.Errors result.journal) }
-    ensures errors_front { (reason : Reason) × GrewByFront (E.taken err) (E.taken result.err) (printed Stream.Errors result.journal ++ text_of reason) }
+    // The journal is a run of the model from the boot that words and files come to; each entry's reply is the model's, each guest thread's
+    // stops are in it in their order, and what was read from a pipe is a prefix of what was written to it.
+    ensures journal { (files : Files) (boot : Boot) → H.held shelf.old ≡ Some files → IsVerdict (map string_bytes words.now) files (Runs boot) → IsJournal boot result.journal }
+    // A run that is begun comes to its end, or memory runs out, whatever the sinks do.
+    ensures ends { (files : Files) (boot : Boot) → H.held shelf.old ≡ Some files → IsVerdict (map string_bytes words.now) files (Runs boot) → Left boot result.reason result.journal }
+    // Also where the shelf tells nothing, the journal is that of the boot of bytes within the limit, or empty since no run was begun.
+    ensures begun { IsUnbegun result.reason result.journal ⊎ Begun (map string_bytes words.now) (H.held shelf.old) result.reason result.journal }
+    // Words that are no command, and files that boot nothing, leave an empty journal.
+    ensures no_command { line (map string_bytes words.now) ≡ None → result.journal ≡ [] }
+    ensures no_boot { (files : Files) → H.held shelf.old ≡ Some files → ((boot : Boot) → IsVerdict (map string_bytes words.now) files (Runs boot) → ⊥) → result.journal ≡ [] }
 
-    // It exited exactly where the run ended so and no sink failed.
-    ensures exited { (files : Files) (code : ℕ) → H.held shelf.old ≡ Some files → ComesUnwritten result.reason (Reason.Exited code) (RunEnds (map string_bytes words.now) files result.journal (Exited code)) }
-    ensures usage { ComesUnwritten result.reason Reason.Usage (line (map string_bytes words.now) ≡ None) }
-    ensures shelf_fault { result.reason ≡ Reason.ShelfFault → Rose (H.faults shelf.old) (H.faults shelf.new) }
-    ensures shelf_rose { H.faults shelf.old < H.faults shelf.new → (result.reason ≡ Reason.ShelfFault) ⊎ (result.reason ≡ Reason.WriteFault) ⊎ (result.reason ≡ Reason.Memory) }
-    ensures shelf_never_falls { H.faults shelf.old ≤ H.faults shelf.new }
-    ensures too_long { (files : Files) → H.held shelf.old ≡ Some files → ComesWhere result.reason Reason.TooLong (IsTooLong (map string_bytes words.now) files) }
-    ensures bad_list { (files : Files) (number : ℕ) → H.held shelf.old ≡ Some files → ComesWhere result.reason (Reason.BadList number) (IsBadList (map string_bytes words.now) files number) }
-    ensures done { (files : Files) → H.held shelf.old ≡ Some files → ComesWhere result.reason Reason.Done (IsDone (map string_bytes words.now) files) }
-    // With Done the shelf holds the image of the list's tree under the name.
-    ensures packed { (files : Files) (list out : List ℕ) → H.held shelf.old ≡ Some files → line (map string_bytes words.now) ≡ Some (Pack list out) → result.reason ≡ Reason.Done
-        → (image : List ℕ) × (pack_verdict files list ≡ Writes image) × (told_file (H.held shelf.new) out ≡ Some (Some image)) }
-    ensures malformed { (files : Files) → H.held shelf.old ≡ Some files → ComesWhere result.reason (Reason.BadProgram ThinFault.Malformed) (IsMalformed (map string_bytes words.now) files) }
-    ensures not_yet { (files : Files) → H.held shelf.old ≡ Some files → ComesWhere result.reason (Reason.BadProgram ThinFault.NotYet) (IsNotYet (map string_bytes words.now) files) }
-    ensures no_other_fault { result.reason ≢ Reason.BadProgram ThinFault.Memory }
+    // The source is handed back as it came: nothing was read.
+    ensures input { result.input ≡ input }
+    // The shelf holds what it held, but for the name that is to be written, which holds just the bytes that are to be written there.
+    ensures shelf { Keeps (map string_bytes words.now) (H.held shelf.old) (H.held shelf.new) (H.faults shelf.old) (H.faults shelf.new) result.reason }
+    // With Done it does hold them.
+    ensures done { (files : Files) (name bytes : List ℕ) → H.held shelf.old ≡ Some files → IsVerdict (map string_bytes words.now) files (Writes name bytes) → result.reason ≡ Reason.Done → told_file (H.held shelf.new) name ≡ Some (Some bytes) }
+
+    // The output took what the history prints to it, and the errors what it prints to them and then the text of the answer's first reason, or
+    // none where the output failed; a sink that failed took a front. The first reason is the one that is told, unless a sink failed.
+    ensures output { Took (O.taken out) (O.taken result.out) (O.faults out) (O.faults result.out) (printed Stream.Output result.journal) }
+    ensures errors { (first : Reason) × (text : List ℕ) × Took (E.taken err) (E.taken result.err) (E.faults err) (E.faults result.err) (printed Stream.Errors result.journal ++ text)
+        × IsText first result.reason text (Rose (O.faults out) (O.faults result.out)) (Rose (E.faults err) (E.faults result.err))
+        × Serves (map string_bytes words.now) (H.held shelf.old) first result.journal
+        × ShelfCounts first (H.faults shelf.old) (H.faults shelf.new) }
+
+    // Each count of faults rises only where the reason tells so, and each fault is told only where a count rose.
+    ensures shelf_counts { ShelfCounts result.reason (H.faults shelf.old) (H.faults shelf.new) }
+    ensures output_counts { SinkCounts result.reason (O.faults out) (O.faults result.out) }
+    ensures errors_counts { SinkCounts result.reason (E.faults err) (E.faults result.err) }
     ensures write_fault { result.reason ≡ Reason.WriteFault → Rose (O.faults out) (O.faults result.out) ⊎ Rose (E.faults err) (E.faults result.err) }
-    ensures output_rose { O.faults out < O.faults result.out → (result.reason ≡ Reason.WriteFault) ⊎ (result.reason ≡ Reason.Memory) }
-    ensures errors_rose { E.faults err < E.faults result.err → (result.reason ≡ Reason.WriteFault) ⊎ (result.reason ≡ Reason.Memory) }
-    ensures output_never_falls { O.faults out ≤ O.faults result.out }
-    ensures errors_never_falls { E.faults err ≤ E.faults result.err }
-    // Where no run was begun, the history is empty.
-    ensures unbegun { IsRefusal result.reason → result.journal ≡ [] }
-    // Where the command's program loads and nothing failed, it ran to its end, unless memory ran out.
-    ensures complete { (files : Files) (boot : Boot) → H.held shelf.old ≡ Some files → Boots (map string_bytes words.now) files boot
-        → (Rose (H.faults shelf.old) (H.faults shelf.new) → ⊥) → (Rose (O.faults out) (O.faults result.out) → ⊥) → (Rose (E.faults err) (E.faults result.err) → ⊥)
-        → IsRun result.reason }
-    // Where the list is right, its files are there and nothing failed, its image is written, unless memory ran out.
-    ensures complete_pack { (files : Files) (image : List ℕ) → H.held shelf.old ≡ Some files → Packs (map string_bytes words.now) files (Writes image)
-        → (Rose (H.faults shelf.old) (H.faults shelf.new) → ⊥) → (Rose (O.faults out) (O.faults result.out) → ⊥) → (Rose (E.faults err) (E.faults result.err) → ⊥)
-        → (result.reason ≡ Reason.Done) ⊎ (result.reason ≡ Reason.Memory) }
 {
+    runs_are_journals();
+    one_file_is_there();
     let mut out = out;
     let mut err = err;
     let Answer { reason, journal } = serve(alloc, words, shelf);

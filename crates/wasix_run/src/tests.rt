@@ -4,7 +4,8 @@ use super::*;
 use runner::journal::Journal;
 use std::alloc::{AllocError, Global};
 use std::test::Fail;
-use wx_types::{Bytes, Entry, MemShelf, MemSink, MemSource, Outcome};
+use wat_asm::AsmKind;
+use wx_types::{Bytes, Entry, MemShelf, MemSink, MemSource, Outcome, Shelf};
 
 // a module that imports proc_exit and exports _start, up to its code section
 const HEAD: &[u8] =
@@ -132,6 +133,20 @@ fn programs_exit(rt: HostRuntime) -> Result<(), Fail> {
     Ok(())
 }
 
+// a module that imports fd_close, and exports as _start what returns at once
+const CLOSES: &[u8] =
+    b"\0asm\x01\0\0\0\x01\x09\x02\x60\x01\x7f\x01\x7f\x60\0\0\x02\x23\x01\x16wasi_snapshot_preview1\x08fd_close\0\0\x03\x02\x01\x01\x07\x0a\x01\x06_start\0\x01\x0a\x04\x01\x02\0\x0b";
+
+#[test]
+fn a_trap_kills(rt: HostRuntime) -> Result<(), Fail> {
+    let alloc = rt.alloc();
+    let file = module(alloc, b"\x0a\x05\x01\x03\0\0\x0b")?;
+    let ended = one(alloc, file.as_slice())?;
+    assert!(rt; matches!(ended.reason, Reason::Killed(6)));
+    assert!(rt; left(&ended, 134, 1, b"", b""));
+    Ok(())
+}
+
 // the file is refused with this status and this text
 fn refuses(alloc: Global, file: &[u8], status: u8, text: &[u8]) -> Result<bool, AllocError> {
     let ended = one(alloc, file)?;
@@ -141,12 +156,13 @@ fn refuses(alloc: Global, file: &[u8], status: u8, text: &[u8]) -> Result<bool, 
 #[test]
 fn what_is_no_program_is_refused(rt: HostRuntime) -> Result<(), Fail> {
     let alloc = rt.alloc();
-    let table: [(&[u8], &[u8]); 5] = [
+    let table: [(&[u8], &[u8]); 4] = [
         (b"", b"wasix: bad program\n"),
-        (b"\0asm\x01\0\0", b"wasix: bad program\n"),
-        (b"\0asn\x01\0\0\0", b"wasix: bad program\n"),
-        (b"\0asm\x01\0\0\0", b"wasix: not built yet\n"),
-        (HEAD, b"wasix: not built yet\n"),
+        // the module exports nothing
+        (b"\0asm\x01\0\0\0", b"wasix: bad program\n"),
+        // its one function has no code
+        (HEAD, b"wasix: bad program\n"),
+        (CLOSES, b"wasix: not built yet\n"),
     ];
     for (file, text) in table {
         assert!(rt; refuses(alloc, file, 126, text)?);
@@ -183,6 +199,7 @@ fn other_words_are_no_command(rt: HostRuntime) -> Result<(), Fail> {
     assert!(rt; is_usage(alloc, &["one"])?);
     assert!(rt; is_usage(alloc, &["one", "f", "f"])?);
     assert!(rt; is_usage(alloc, &["two", "f"])?);
+    assert!(rt; is_usage(alloc, &["asm", "f"])?);
     Ok(())
 }
 
@@ -321,5 +338,47 @@ fn whole_writes(alloc: Global) -> Result<bool, AllocError> {
 #[test]
 fn whole_memory_is_written_fifteen_times(rt: HostRuntime) -> Result<(), Fail> {
     assert!(rt; whole_writes(rt.alloc())?);
+    Ok(())
+}
+
+// the module with one empty function that is exported as _start
+const EMPTY: &[u8] =
+    b"\0asm\x01\0\0\0\x01\x04\x01\x60\0\0\x03\x02\x01\0\x07\x0a\x01\x06_start\0\0\x0a\x04\x01\x02\0\x0b";
+
+// why `asm f o` ends over a shelf that has this text as `f`
+fn assembled(alloc: Global, text: &[u8], shelf: &mut MemShelf) -> Result<Reason, AllocError> {
+    shelf.put("f", text)?;
+    let words = texts(alloc, &["asm", "f", "o"])?;
+    let input = MemSource::new(Bytes::empty(alloc), Vec::new(alloc));
+    let out = sink(alloc, 100, &[])?;
+    let err = sink(alloc, 100, &[])?;
+    let ended = wasix_serial(alloc, words.as_slice(), shelf, input, out, err);
+    Ok(ended.reason)
+}
+
+#[test]
+fn a_text_is_assembled(rt: HostRuntime) -> Result<(), Fail> {
+    let alloc = rt.alloc();
+    let mut shelf = MemShelf::new(alloc, 100, Vec::new(alloc))?;
+    let reason = assembled(alloc, b"(module (func (export \"_start\")))", &mut shelf)?;
+    assert!(rt; matches!(reason, Reason::Done));
+    assert!(rt; shelf.read(alloc, "o", 100)?.as_slice() == EMPTY);
+    Ok(())
+}
+
+#[test]
+fn a_wrong_text_is_told(rt: HostRuntime) -> Result<(), Fail> {
+    let alloc = rt.alloc();
+    let mut shelf = MemShelf::new(alloc, 100, Vec::new(alloc))?;
+    let reason = assembled(alloc, b"(module (func i32.bad))", &mut shelf)?;
+    assert!(rt;
+        matches!(
+            reason,
+            Reason::BadText {
+                line: 1,
+                kind: AsmKind::Syntax
+            }
+        )
+    );
     Ok(())
 }

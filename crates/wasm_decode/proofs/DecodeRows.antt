@@ -4,7 +4,7 @@ use Rattle.std.specs.Prelude.{IfOk}
 use Rattle.wasm_ast.specs.declared.module.Module.{Module}
 use Rattle.wasm_ast.specs.SpelledModule.{SpellsModule}
 use Rattle.wasm_decode.specs.declared.fault.{Bound.Bound, DecodeFault.DecodeFault}
-use Rattle.wasm_decode.specs.declared.fault.Bound.TheVariants.{Length, Types, Functions, Locals, Nesting, Table, Pages}
+use Rattle.wasm_decode.specs.declared.fault.Bound.TheVariants.{Length}
 use Rattle.wasm_decode.specs.declared.fault.DecodeFault.TheVariants.{Malformed, Float, Limit, Memory}
 use Rattle.wasm_decode.specs.Floats.{module_has_float}
 use Rattle.wasm_decode.specs.Bounds.{most_bytes, first_passed}
@@ -22,12 +22,7 @@ judged_rows : (bytes : List ℕ) (m : Module) (b : Bool) (p : Option Bound) → 
 judged_rows bytes m true p f q w s = (w, (m, s, f))
 judged_rows bytes m false None f q w s = (w, s, f, q)
 judged_rows bytes m false (Some Length) f q w s = absurd (never_length m q)
-judged_rows bytes m false (Some Types) f q w s = (w, (m, s, f, q))
-judged_rows bytes m false (Some Functions) f q w s = (w, (m, s, f, q))
-judged_rows bytes m false (Some Locals) f q w s = (w, (m, s, f, q))
-judged_rows bytes m false (Some Nesting) f q w s = (w, (m, s, f, q))
-judged_rows bytes m false (Some Table) f q w s = (w, (m, s, f, q))
-judged_rows bytes m false (Some Pages) f q w s = (w, (m, s, f, q))
+judged_rows bytes m false (Some bound) f q w s = (w, (m, s, f, q))
 
 -- the answer for a module that was read is in its row
 pub of_judged : (bytes : List ℕ) (m : Module) (r : Answer) → AreWithin bytes → SpellsModule bytes m → IsUnlessMemory r (judged m) → Decodes bytes r
@@ -44,23 +39,12 @@ Row bytes r = ((most_bytes < length bytes) × (r ≡ Err (Limit Length))) ⊎ (A
 judged_is : (m : Module) (b : Bool) (p : Option Bound) → module_has_float m ≡ b → first_passed m ≡ p → (if b then Err Float else unless_passed m p) ≡ judged m
 judged_is m b p f q = ap (λ (x : Bool). if x then Err Float else unless_passed m p) (sym f) ∙ ap (λ (y : Option Bound). if module_has_float m then Err Float else unless_passed m y) (sym q)
 
-abbrev Past : List ℕ → Bound → Type 0
-Past bytes bound = AreWithin bytes × ((m : Module) × SpellsModule bytes m × (module_has_float m ≡ false) × (first_passed m ≡ Some bound))
-
-past_row : (bytes : List ℕ) (bound : Bound) → Past bytes bound → Row bytes (Err (Limit bound))
-past_row bytes bound p = inr (p.0, inr (inr (p.1.0, p.1.1, judged_is p.1.0 false (Some bound) p.1.2 p.1.3)))
-
 row : (bytes : List ℕ) (r : Answer) → Decodes bytes r → Row bytes r
 row bytes (Ok m) d = inr (d.0, inr (inr (m, d.1, judged_is m false None d.2 d.3)))
 row bytes (Err Malformed) d = inr (d.0, inr (inl (refl, d)))
 row bytes (Err Float) d = inr (d.0, inr (inr (d.1.0, d.1.1, judged_is d.1.0 true (first_passed d.1.0) d.1.2 refl)))
 row bytes (Err (Limit Length)) d = inl (d, refl)
-row bytes (Err (Limit Types)) d = past_row bytes Types d
-row bytes (Err (Limit Functions)) d = past_row bytes Functions d
-row bytes (Err (Limit Locals)) d = past_row bytes Locals d
-row bytes (Err (Limit Nesting)) d = past_row bytes Nesting d
-row bytes (Err (Limit Table)) d = past_row bytes Table d
-row bytes (Err (Limit Pages)) d = past_row bytes Pages d
+row bytes (Err (Limit bound)) d = inr (d.0, inr (inr (d.1.0, d.1.1, judged_is d.1.0 false (Some bound) d.1.2 d.1.3)))
 row bytes (Err Memory) d = inr (d, inl refl)
 
 module _ (bytes : List ℕ) (one : (m n : Module) → SpellsModule bytes m → SpellsModule bytes n → m ≡ n) where

@@ -1,11 +1,3 @@
-pub mod Loop
-pub mod Readers
-pub mod ItemReaders
-pub mod AllSections
-pub mod Heights
-pub mod Distinct
-pub mod ConsistentParts
-pub mod Answering
 pub mod SearchLemmas
 pub mod DecodeRows
 pub mod BoundLemmas

@@ -3,6 +3,7 @@ use Rattle.std.proofs.Common.{◌≡◌, ℕ, ◌+◌, ◌-◌, ◌<◌, ◌≤�
 use Rattle.std.specs.Prelude.{min, max}
 use Rattle.std.specs.List.{list_any}
 use Rattle.std.proofs.lemmas.Bool.{cases_lt}
+use Rattle.std.proofs.Math.Bool.{or_assoc, or-false}
 use Rattle.std.proofs.lemmas.List.{append-nil}
 use Rattle.std.proofs.lemmas.List.Folds.{list_any-append}
 use Rattle.wasm_ast.specs.Sequence.{Sequence, Empty, Plain, Block, If}
@@ -11,10 +12,6 @@ use Rattle.wasm_decode.specs.Floats.{block_is_float, has_float}
 use Rattle.wasm_decode.specs.Nesting.{depth}
 use Rattle.wasm_decode.specs.Bounds.{is_deep}
 use Rattle.wasm_decode.specs.Search.{event_is_float, is_deep_from}
-
-or_assoc : (a b c : Bool) → ((a || b) || c) ≡ (a || (b || c))
-or_assoc true b c = refl
-or_assoc false b c = refl
 
 -- a float among the events is one of the sequence
 pub float_events : (s : Sequence) → list_any event_is_float (events s) ≡ has_float s
@@ -72,13 +69,9 @@ deep_behind (If of first second rest) n es h =
     (λ l.
     rw (deep_behind first (n + 1) behind (omega arith), deep_behind second (n + 1) (End ∷ (events rest ++ es)) (omega arith), back, deep_behind rest n es h, past_max (n + 1) d e, or_assoc (nat_lt 256 ((n + 1) + d)) (nat_lt 256 ((n + 1) + e)) y) refl))
 
-or_false : (b : Bool) → (b || false) ≡ b
-or_false true = refl
-or_false false = refl
-
 pub deep_events : (s : Sequence) → is_deep_from 0 (events s) ≡ is_deep s
 deep_events s =
-    ap (is_deep_from 0) (sym (append-nil (events s))) ∙ deep_behind s 0 [] (omega arith) ∙ or_false (nat_lt 256 (0 + depth s)) ∙ ap (nat_lt 256) {y = depth s} (omega arith)
+    ap (is_deep_from 0) (sym (append-nil (events s))) ∙ deep_behind s 0 [] (omega arith) ∙ or-false (nat_lt 256 (0 + depth s)) ∙ ap (nat_lt 256) {y = depth s} (omega arith)
 
 -- what was found before, and in these
 pub found_behind : {X : Type 0} (f : X → Bool) (xs ys : List X) (a b c : Bool) → a ≡ (b || list_any f xs) → b ≡ c → xs ≡ ys → a ≡ (c || list_any f ys)

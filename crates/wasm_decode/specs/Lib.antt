@@ -1,14 +1,7 @@
-pub mod Answer
 pub mod Bodies
 pub mod Bounds
 pub mod Decodes
 pub mod Floats
-pub mod Grammar
 pub mod Nesting
-pub mod ThinReading
-pub mod Segment
 pub mod Judged
 pub mod Search
-pub mod ThinGrammar
-pub mod ThinModule
-pub mod Views

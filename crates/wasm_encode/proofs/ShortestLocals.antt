@@ -53,22 +53,10 @@ merged_all [] gs m = m
 merged_all (g ∷ more) gs m =
     merged_all more (added gs g) (elim (empty_or g gs) [ inl w ↦ subst AreMerged (sym w.1) m | inr w ↦ subst AreMerged (sym w.1) (merged-joined gs g w.0 m) ])
 
-total_all : (more gs : List LocalGroup) → total (gathered gs more) ≡ total gs + total more
-total_all [] gs = omega arith
-total_all (g ∷ more) gs =
-    let r = total_all more (added gs g) in
-    elim (empty_or g gs) [ inl w ↦ omega (arith, r, w.0, ap total w.1) | inr w ↦ omega (arith, r, ap total w.1, total-joined gs g) ]
-
 length_joined : (gs : List LocalGroup) (g : LocalGroup) → length (joined gs g) ≤ length gs + 1
 length_joined [] g = omega arith
 length_joined (x ∷ []) g = grind arith
 length_joined (x ∷ y ∷ gs) g = omega (arith, length_joined (y ∷ gs) g)
-
-length_all : (more gs : List LocalGroup) → length (gathered gs more) ≤ length gs + length more
-length_all [] gs = omega arith
-length_all (g ∷ more) gs =
-    let r = length_all more (added gs g) in
-    elim (empty_or g gs) [ inl w ↦ omega (arith, r, ap length w.1) | inr w ↦ omega (arith, r, ap length w.1, length_joined gs g) ]
 
 -- one group for two
 group_sum : (x g : LocalGroup) → length (canon_group (record { count = x.count + g.count; of = x.of })) ≤ length (canon_group x) + length (canon_group g)
@@ -83,12 +71,13 @@ written_joined (x ∷ []) g =
 written_joined (x ∷ y ∷ gs) g =
     omega (arith, written_joined (y ∷ gs) g, length-append (canon_group x) (written (joined (y ∷ gs) g)), length-append (canon_group x) (written (y ∷ gs)))
 
-written_all : (more gs : List LocalGroup) → length (written (gathered gs more)) ≤ length (written gs) + length (written more)
-written_all [] gs = omega arith
-written_all (g ∷ more) gs =
-    let r = written_all more (added gs g) in
-    let l = length-append (canon_group g) (written more) in
-    elim (empty_or g gs) [ inl w ↦ omega (arith, r, l, ap (λ z. length (written z)) w.1) | inr w ↦ omega (arith, r, l, ap (λ z. length (written z)) w.1, written_joined gs g) ]
+-- gathering doesn't make larger what joining doesn't
+no_larger : (f : List LocalGroup → ℕ) → ((g : LocalGroup) (more : List LocalGroup) → f more ≤ f (g ∷ more)) →
+    ((gs : List LocalGroup) (g : LocalGroup) (more : List LocalGroup) → f (joined gs g) + f more ≤ f gs + f (g ∷ more)) → (more gs : List LocalGroup) → f (gathered gs more) ≤ f gs + f more
+no_larger f none one [] gs = omega arith
+no_larger f none one (g ∷ more) gs =
+    let r = no_larger f none one more (added gs g) in
+    elim (empty_or g gs) [ inl w ↦ omega (arith, r, none g more, ap f w.1) | inr w ↦ omega (arith, r, one gs g more, ap f w.1) ]
 
 -- ---- the locals
 
@@ -108,9 +97,14 @@ module _ (bytes : List ℕ) (groups : List LocalGroup) (a : AreBytes bytes) (j :
   gathered_shortest =
       let locals : List LocalGroup = gathered [] groups in
       let b = bytes_split j.front j.back (subst AreBytes j.parts a) in
-      let n = u32_shortest j.front (length groups) (length locals) b.0 j.first (omega (arith, length_all groups [])) in
+      let few_groups = no_larger length (λ g more. omega arith) (λ gs g more. omega (arith, length_joined gs g)) groups [] in
+      let few_locals = no_larger total (λ g more. omega arith) (λ gs g more. omega (arith, total-joined gs g)) groups [] in
+      let few_bytes =
+      no_larger (λ gs. length (written gs)) (λ g more. omega (arith, length-append (canon_group g) (written more)))
+      (λ gs g more. omega (arith, written_joined gs g, length-append (canon_group g) (written more))) groups [] in
+      let n = u32_shortest j.front (length groups) (length locals) b.0 j.first (omega (arith, few_groups)) in
       let gs = each_shortest group_shortest j.back groups b.1 j.second in
-      let total_same : total locals < 2 ^ 32 = omega (arith, few, total_all groups []) in
+      let total_same : total locals < 2 ^ 32 = omega (arith, few, few_locals) in
       record {
         spells = (
           locals,
@@ -118,7 +112,7 @@ module _ (bytes : List ℕ) (groups : List LocalGroup) (a : AreBytes bytes) (j :
           total_same,
           sym (gathered_merged locals (merged_all groups [] tt)),
         );
-        shorter = omega (arith, n.shorter, gs.shorter, written_all groups [], ap length j.parts, length-append j.front j.back, length-append (shortest_unsigned (length locals)) (written locals));
+        shorter = omega (arith, n.shorter, gs.shorter, few_bytes, ap length j.parts, length-append j.front j.back, length-append (shortest_unsigned (length locals)) (written locals));
       }
 
 locals_shortest : IsShortest SpellsLocals (canon_vec canon_group)

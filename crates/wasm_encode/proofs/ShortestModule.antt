@@ -107,7 +107,7 @@ module _ (bytes : List ℕ) (m : Module) (a : AreBytes bytes) (h : SpellsModule 
       let codes = held code_shortest 10 m.codes h.codes in
       let segments = held segment_shortest 11 m.segments h.segments in
       let covered : Covered 1 h.sections (slots m) = (types.0, (imports.0, (functions.0, (tables.0, (memories.0, (globals.0, (exports.0, (start.0, (elements.0, (codes.0, (segments.0, tt))))))))))) in
-      let body = slots_shortest (slots m) 1 h.sections h.body (omega arith) body_bytes h.parts h.order covered in
+      let body = slots_shortest h.sections (slots m) 1 h.body (omega arith) body_bytes h.parts h.order covered in
       record {
         spells = record {
           sections = sections_from 1 (slots m);

@@ -1,7 +1,7 @@
 -- The shortest numbers are spelled, and no spelling is shorter.
 use Rattle.std.proofs.Common.{◌≡◌, ◌⊎◌, inl, inr, ℕ, zero, suc, ℤ, pos, negsuc, ◌+◌, ◌-◌, ◌*◌, ◌/◌, ◌%◌, ◌^◌, ◌<◌, ◌≤◌, ◌+ℤ◌, ◌-ℤ◌, ◌*ℤ◌, nat_lt, Bool, true, false, ◌&&◌, List, [], ◌∷◌, ◌++◌, length, Option, Some, refl, sym, ◌∙◌, ap, subst, arith}
 use Rattle.std.specs.List.{AllByRecursion}
-use Rattle.std.proofs.lemmas.Bool.{lt-ltb, ltb-true, cases_lt, le-leb}
+use Rattle.std.proofs.lemmas.Bool.{lt-ltb, ltb-true, cases_lt, cases_Bool, le-leb}
 use Rattle.byte_cursor.specs.Integers.{Spells, SpellsUnsigned, SpellsSigned, unsigned_last, unsigned_joined, signed_last, signed_joined}
 use Rattle.byte_cursor.proofs.Bounds.{seven_more, pow_le, unsigned_some, signed_low, signed_high}
 use Rattle.std.proofs.lemmas.Int.{ints}
@@ -23,17 +23,10 @@ pub record NoLonger (P : List ℕ → Type 0) (bytes written : List ℕ) : Type 
   pub spells : P written
   pub shorter : length written ≤ length bytes
 
-pub some_is : {A : Type 0} (x y : A) → Some x ≡ Some y → x ≡ y
-some_is x y e = cc
-
 -- a byte that goes on in front of a number
 goes_on : {N : Type 0} (last : ℕ → ℕ → Option N) (joined : ℕ → N → N) (bits b : ℕ) (bytes : List ℕ) (m n : N) → 128 ≤ b → 7 < bits → n ≡ joined b m → Spells last joined (bits - 7) bytes m → Spells last joined bits (b ∷ bytes) n
 goes_on last joined bits b [] m n high more e s = absurd s
 goes_on last joined bits b (c ∷ bytes) m n high more e s = (high, more, m, s, e)
-
-split_bool : (b : Bool) → (b ≡ true) ⊎ (b ≡ false)
-split_bool true = inl refl
-split_bool false = inr refl
 
 -- Numbers of which a last byte gives a small one and its lowest bits, a byte that goes on gives its bits
 -- and the rest, and a small one is spelled by one byte.
@@ -48,7 +41,7 @@ module _ {N : Type 0} (small : N → Bool) (low : N → ℕ) (rest : N → N) (l
       subst (λ w. NoLonger (λ a. Spells last joined bits a n) (b ∷ []) w) (sym (small_is small low rest more n p.0 ∙ ap (λ c. c ∷ []) p.1)) (record { spells = s; shorter = omega arith })
   number_shortest zero bits (b ∷ c ∷ bytes) n f a s = absurd (omega (arith, s.1))
   number_shortest (suc more) bits (b ∷ c ∷ bytes) n f a s =
-      elim (split_bool (small n)) [
+      elim (cases_Bool (small n)) [
         | inl one_byte ↦
             subst (λ w. NoLonger (λ a. Spells last joined bits a n) (b ∷ c ∷ bytes) w) (sym (small_is small low rest (suc more) n one_byte)) (record { spells = one bits n s.1 one_byte; shorter = omega arith })
         | inr longer ↦

@@ -5,7 +5,8 @@ use Rattle.byte_cursor.proofs.Laws.{chosen}
 use Rattle.wasm_ast.specs.Canon.{canon_section}
 use Rattle.wasm_ast.specs.Spelling.{SpellsEach, SpellsBytes}
 use Rattle.wasm_ast.specs.SpelledModule.{Section, SpellsSection, InOrder, content_of}
-use Rattle.wasm_encode.proofs.ShortestNumbers.{AreBytes, bytes_split, NoLonger, some_is}
+use Rattle.wasm_reading.proofs.ValueLaws.{some_is}
+use Rattle.wasm_encode.proofs.ShortestNumbers.{AreBytes, bytes_split, NoLonger}
 use Rattle.wasm_encode.proofs.ShortestVectors.{content_shortest, content_bytes}
 
 -- the sections of the contents at the numbers from one on, none where there is none
@@ -67,20 +68,6 @@ order_from (Some content ∷ slots) next p l =
 
 -- ---- against sections that are spelled
 
--- what is known of the size of a section, within so many bytes and in front of the rest
-abbrev Size : List ℕ → ℕ → Option (List ℕ) → Type 0
-Size rest n o = MatchOption o (length rest ≤ n) (λ content. (front : List ℕ) × AreBytes front × SpellsBytes front content × (1 + length front + length rest ≤ n))
-
--- the sections behind that number: some of those that are spelled, with what they say of each number there
-record Later (next : ℕ) (ss : List Section) (body : List ℕ) : Type 0 where
-  later : List Section
-  rest : List ℕ
-  are : AreBytes rest
-  spelled : SpellsEach SpellsSection rest later
-  order : InOrder (suc next) later
-  same : (id : ℕ) → next < id → content_of id later ≡ content_of id ss
-  size : Size rest (length body) (content_of next ss)
-
 -- no section of a number comes in front of the next
 none_early : (ss : List Section) (next id : ℕ) → 0 < id → id < next → InOrder next ss → content_of id ss ≡ None
 none_early [] next id p l o = refl
@@ -90,64 +77,10 @@ none_early (s ∷ ss) next id p l o =
       | inr w ↦ past s ss id (λ e. omega (arith, w.1)) ∙ none_early ss (s.id + 1) id p (omega (arith, w.1)) w.3
     ]
 
-size_more : (rest : List ℕ) (m n : ℕ) (o : Option (List ℕ)) → m ≤ n → Size rest m o → Size rest n o
-size_more rest m n None l s = omega (arith, l, s)
-size_more rest m n (Some content) l s = (s.0, s.1, s.2, omega (arith, l, s.3))
-
-size_rest : (rest : List ℕ) (n : ℕ) (o : Option (List ℕ)) → Size rest n o → length rest ≤ n
-size_rest rest n None s = s
-size_rest rest n (Some content) s = omega (arith, s.3)
-
 -- the number in front of the size and the content
 section_front : (s : Section) (front : List ℕ) → SpellsSection front s → (more : List ℕ) × (front ≡ s.id ∷ more) × SpellsBytes more s.content
 section_front s [] h = absurd h
 section_front s (b ∷ more) h = (more, ap (λ c. c ∷ more) h.0, h.1)
-
-later_at : (ss : List Section) (next : ℕ) (body : List ℕ) → 0 < next → AreBytes body → SpellsEach SpellsSection body ss → InOrder next ss → Later next ss body
-later_at [] next body p a j o = record { later = []; rest = body; are = a; spelled = j; order = tt; same = λ id l. refl; size = omega arith }
-later_at (s ∷ ss) next body p a j o =
-    let b = bytes_split j.front j.back (subst AreBytes j.parts a) in
-    let long : length body ≡ length j.front + length j.back = ap length j.parts ∙ length-append j.front j.back in
-    elim o [
-      | inl w ↦
-          let r = later_at ss next j.back p b.1 j.second w.2 in
-          record {
-            later = r.later;
-            rest = r.rest;
-            are = r.are;
-            spelled = r.spelled;
-            order = r.order;
-            same = λ id l. r.same id l ∙ sym (past s ss id (λ e. omega (arith, w.0, l)));
-            size = subst (λ o. Size r.rest (length body) o) (sym (past s ss next (λ e. omega (arith, w.0, p)))) (size_more r.rest (length j.back) (length body) (content_of next ss) (omega arith) r.size);
-          }
-      | inr w ↦
-          elim (cases_lt next s.id) [
-            | inl l ↦
-                let after : InOrder (suc next) (s ∷ ss) = inr (w.0, omega (arith, l), w.2, w.3) in
-                record {
-                  later = s ∷ ss;
-                  rest = body;
-                  are = a;
-                  spelled = j;
-                  order = after;
-                  same = λ id l. refl;
-                  size = subst (λ o. Size body (length body) o) (sym (none_early (s ∷ ss) (suc next) next p (omega arith) after)) (omega arith);
-                }
-            | inr l ↦
-                let it : s.id ≡ next = omega (arith, l, w.1) in
-                let f = section_front s j.front j.first in
-                record {
-                  later = ss;
-                  rest = j.back;
-                  are = b.1;
-                  spelled = j.second;
-                  order = subst (λ n. InOrder n ss) (omega (arith, it)) w.3;
-                  same = λ id l. sym (past s ss id (λ e. omega (arith, it, l)));
-                  size = subst (λ o. Size j.back (length body) o) (sym (here s ss next it))
-                      (f.0, (subst AreBytes f.1 b.0).1, f.2, omega (arith, long, ap length f.1));
-                }
-          ]
-    ]
 
 -- what is written at a number is no longer than what is spelled there
 abbrev pub Fits : Option (List ℕ) → Option (List ℕ) → Type 0
@@ -163,24 +96,58 @@ covered_same : (slots : List (Option (List ℕ))) (next : ℕ) (later ss : List 
 covered_same [] next later ss e c = tt
 covered_same (slot ∷ slots) next later ss e c = (subst (λ o. Fits slot o) (sym (e next (omega arith))) c.0, covered_same slots (suc next) later ss (λ id l. e id (omega (arith, l))) c.1)
 
-slot_shortest : (next : ℕ) (slot : Option (List ℕ)) (slots : List (Option (List ℕ))) (body rest : List ℕ) (o : Option (List ℕ)) → Fits slot o → Size rest (length body) o →
-    NoLonger (λ a. SpellsEach SpellsSection a (sections_from (suc next) slots)) rest (written_from (suc next) slots) → NoLonger (λ a. SpellsEach SpellsSection a (sections_from next (slot ∷ slots))) body (written_from next (slot ∷ slots))
-slot_shortest next None slots body rest o f s r = record { spells = r.spells; shorter = omega (arith, r.shorter, size_rest rest (length body) o s) }
-slot_shortest next (Some v) slots body rest None f s r = absurd f
-slot_shortest next (Some v) slots body rest (Some content) f s r =
-    let p = content_shortest s.0 content v s.1 s.2 f in
-    record {
-      spells = record { front = canon_section next v; back = written_from (suc next) slots; parts = refl; first = (refl, p.spells); second = r.spells };
-      shorter = omega (arith, r.shorter, p.shorter, s.3, length-append (canon_section next v) (written_from (suc next) slots));
-    }
+-- what is written at the numbers from one on, against what is spelled
+abbrev Shortest : ℕ → List (Option (List ℕ)) → List ℕ → Type 0
+Shortest next slots body = NoLonger (λ a. SpellsEach SpellsSection a (sections_from next slots)) body (written_from next slots)
 
-pub slots_shortest : (slots : List (Option (List ℕ))) (next : ℕ) (ss : List Section) (body : List ℕ) → 0 < next → AreBytes body → SpellsEach SpellsSection body ss → InOrder next ss → Covered next ss slots →
-    NoLonger (λ a. SpellsEach SpellsSection a (sections_from next slots)) body (written_from next slots)
-slots_shortest [] next ss body p a j o c = record { spells = refl; shorter = omega arith }
-slots_shortest (slot ∷ slots) next ss body p a j o c =
-    let b = later_at ss next body p a j o in
-    let r = slots_shortest slots (suc next) b.later b.rest (omega arith) b.are b.spelled b.order (covered_same slots (suc next) b.later ss (λ id l. b.same id (omega (arith, l))) c.1) in
-    slot_shortest next slot slots body b.rest (content_of next ss) c.0 b.size r
+-- with some bytes in front
+behind_more : (next : ℕ) (slots : List (Option (List ℕ))) (front back : List ℕ) → Shortest next slots back → Shortest next slots (front ++ back)
+behind_more next slots front back r = record { spells = r.spells; shorter = omega (arith, r.shorter, length-append front back) }
+
+none_written : (slots : List (Option (List ℕ))) (next : ℕ) (body : List ℕ) → Covered next [] slots → Shortest next slots body
+none_written [] next body c = record { spells = refl; shorter = omega arith }
+none_written (None ∷ slots) next body c = none_written slots (suc next) body c.1
+none_written (Some v ∷ slots) next body c = absurd c.0
+
+-- a section that isn't custom, in front of others
+module _ (s : Section) (ss : List Section) (front back : List ℕ) (a : AreBytes front) (h : SpellsSection front s) (o : InOrder (s.id + 1) ss)
+    (later : (slots : List (Option (List ℕ))) (next : ℕ) → 0 < next → InOrder next ss → Covered next ss slots → Shortest next slots back) where
+  behind_it : (slots : List (Option (List ℕ))) (next : ℕ) → s.id ≡ next → Covered (suc next) (s ∷ ss) slots → Shortest (suc next) slots back
+  behind_it slots next e c =
+      later slots (suc next) (omega arith) (subst (λ n. InOrder n ss) (omega (arith, e)) o) (covered_same slots (suc next) ss (s ∷ ss) (λ id l. sym (past s ss id (λ f. omega (arith, e, f, l)))) c)
+
+  from_number : (slots : List (Option (List ℕ))) (next : ℕ) → 0 < next → next ≤ s.id → Covered next (s ∷ ss) slots → Shortest next slots (front ++ back)
+  from_number [] next p l c = record { spells = refl; shorter = omega arith }
+  from_number (None ∷ slots) next p l c =
+      elim (cases_lt next s.id) [
+        | inl less ↦ from_number slots (suc next) (omega arith) (omega (arith, less)) c.1
+        | inr same ↦ behind_more (suc next) slots front back (behind_it slots next (omega (arith, l, same)) c.1)
+      ]
+  from_number (Some v ∷ slots) next p l c =
+      elim (cases_lt next s.id) [
+        | inl less ↦ absurd (subst (λ o. Fits (Some v) o) (past s ss next (λ e. omega (arith, e, less)) ∙ none_early ss (s.id + 1) next p (omega (arith, less)) o) c.0)
+        | inr same ↦
+            let e : s.id ≡ next = omega (arith, l, same) in
+            let f = section_front s front h in
+            let q = content_shortest f.0 s.content v (subst AreBytes f.1 a).1 f.2 (subst (λ o. Fits (Some v) o) (here s ss next e) c.0) in
+            let r = behind_it slots next e c.1 in
+            record {
+              spells = record { front = canon_section next v; back = written_from (suc next) slots; parts = refl; first = (refl, q.spells); second = r.spells };
+              shorter = omega (arith, r.shorter, q.shorter, ap length f.1, length-append front back, length-append (canon_section next v) (written_from (suc next) slots));
+            }
+      ]
+
+pub slots_shortest : (ss : List Section) (slots : List (Option (List ℕ))) (next : ℕ) (body : List ℕ) → 0 < next → AreBytes body → SpellsEach SpellsSection body ss → InOrder next ss → Covered next ss slots → Shortest next slots body
+slots_shortest [] slots next body p a j o c = none_written slots next body c
+slots_shortest (s ∷ ss) slots next body p a j o c =
+    let b = bytes_split j.front j.back (subst AreBytes j.parts a) in
+    subst (λ x. Shortest next slots x) (sym j.parts)
+    (elim o [
+      | inl w ↦
+          let others = covered_same slots next ss (s ∷ ss) (λ id l. sym (past s ss id (λ e. omega (arith, w.0, e, l, p)))) c in
+          behind_more next slots j.front j.back (slots_shortest ss slots next j.back p b.1 j.second w.2 others)
+      | inr w ↦ from_number s ss j.front j.back b.0 j.first w.3 (λ slots next p o c. slots_shortest ss slots next j.back p b.1 j.second o c) slots next p w.1 c
+    ])
 
 -- the content of a section are bytes
 pub contents_bytes : (ss : List Section) (body : List ℕ) (id : ℕ) (content : List ℕ) → AreBytes body → SpellsEach SpellsSection body ss → content_of id ss ≡ Some content → AreBytes content

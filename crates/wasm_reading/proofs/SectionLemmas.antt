@@ -1,6 +1,6 @@
 -- A loop that splits a module into its sections.
 use Rattle.std.proofs.Common.{◌≡◌, ℕ, zero, suc, ◌<◌, ◌≤◌, List, [], ◌∷◌, ◌++◌, length, Option, Some, None, refl, sym, ◌∙◌, ap, arith, drop, append_assoc, length-append}
-use Rattle.std.proofs.lemmas.List.{append-nil}
+use Rattle.std.proofs.lemmas.List.{append-nil, nil_from_length}
 use Rattle.std.specs.Option.{option_map}
 use Rattle.wasm_ast.specs.SpelledModule.{Section, SpellsSection}
 use Rattle.wasm_reading.specs.ReadValues.{and_then, next_at}
@@ -53,10 +53,6 @@ section_cut n least [] p h = absurd (omega arith)
 section_cut zero least (b ∷ now) p h = refl
 section_cut (suc m) least (b ∷ now) p h = ap (λ o. and_then o (λ s rest. option_map (λ ss. s.0 ∷ ss) (sections_at m s.1 rest))) h
 
-empty_is : (bytes : List ℕ) → length bytes ≡ 0 → bytes ≡ []
-empty_is [] h = refl
-empty_is (b ∷ bytes) h = absurd (omega arith)
-
 module _ (start : List ℕ) (parts : List Section) (least : ℕ) (now : List ℕ) (s : Split start parts least now) where
   pub split_more : (more : List Section) (x : Section) (next : ℕ) (rest : List ℕ) → section_at least now ≡ Some ((x, next), rest) → more ≡ parts ++ x ∷ [] → Split start more next rest
   split_more more x next rest h m =
@@ -71,7 +67,7 @@ module _ (start : List ℕ) (parts : List Section) (least : ℕ) (now : List ℕ
   split_cut p h = s.goes ∙ ap (λ o. with_parts parts o) (section_cut s.left least now p h)
 
   pub split_done : length now ≡ 0 → sections_at (length start) 1 start ≡ Some parts
-  split_done h = s.goes ∙ ap (λ x. with_parts parts (sections_at s.left least x)) (empty_is now h) ∙ ap (λ p. Some p) (append-nil parts)
+  split_done h = s.goes ∙ ap (λ x. with_parts parts (sections_at s.left least x)) (nil_from_length now h) ∙ ap (λ p. Some p) (append-nil parts)
 
 pub none_left : (now : List ℕ) → next_at now ≡ None → length now ≡ 0
 none_left [] h = refl
@@ -83,4 +79,4 @@ preamble_cut (c ∷ cs) zero now l e = ap (λ x. preamble_at (c ∷ cs) x) e
 preamble_cut (c ∷ cs) (suc i) now l e = preamble_cut cs i now (omega arith) e
 
 pub preamble_none : (cs : List ℕ) (i : ℕ) (now : List ℕ) → i < length cs → next_at now ≡ None → preamble_at (drop i cs) now ≡ None
-preamble_none cs i now l h = preamble_cut cs i now l (empty_is now (none_left now h))
+preamble_none cs i now l h = preamble_cut cs i now l (nil_from_length now (none_left now h))

@@ -8,15 +8,11 @@ use Rattle.std.proofs.lemmas.Str.{IsUtf8-from_is_utf8, is_utf8-from_IsUtf8}
 use Rattle.byte_cursor.specs.declared.leb.CursorFault.{CursorFault}
 use Rattle.byte_cursor.specs.Integers.{BeginsWith, Spells, SpellsSigned, unsigned_last, unsigned_joined, signed_last, signed_joined}
 use Rattle.byte_cursor.specs.ReadNumbers.{number_at, unsigned_at, signed_at}
-use Rattle.byte_cursor.proofs.Laws.{number_takes, number_again}
+use Rattle.byte_cursor.proofs.Laws.{chosen, number_takes, number_again}
 use Rattle.wasm_ast.specs.Spelling.{Joined, Behind, SpellsU32, SpellsEach, SpellsVec, SpellsBytes, SpellsName, Sized}
 use Rattle.wasm_reading.specs.ReadValues.{and_then, mapped, pair_at, next_at, behind_at, u32_at, i32_at, i64_at, each_at, vec_at, span_at, bytes_at, name_at, if_ended, all_of, with_rest, byte_as, sized_at, IsExact}
 
 -- a test that chose
-pub chosen : {A : Type 0} (b : Bool) (x y z : A) → cond b x y ≡ z → ((b ≡ true) × (x ≡ z)) ⊎ ((b ≡ false) × (y ≡ z))
-chosen true x y z e = inl (refl, e)
-chosen false x y z e = inr (refl, e)
-
 pub chose_some : {A : Type 0} (b : Bool) (x : Option A) (z : A) → cond b x None ≡ Some z → (b ≡ true) × (x ≡ Some z)
 chose_some true x z e = (refl, e)
 chose_some false x z e = cc
@@ -45,7 +41,7 @@ begins_joined P Q bytes mid rest a b p q = (
 )
 
 -- the same in front of the same rest
-begins_as : {X : Type 0} (S : List ℕ → X → Type 0) {bytes mid rest : List ℕ} {x y : X} → BeginsWith S bytes x mid → ◌≡◌ {A = Option (X × List ℕ)} (Some (x, mid)) (Some (y, rest)) → BeginsWith S bytes y rest
+pub begins_as : {X : Type 0} (S : List ℕ → X → Type 0) {bytes mid rest : List ℕ} {x y : X} → BeginsWith S bytes x mid → ◌≡◌ {A = Option (X × List ℕ)} (Some (x, mid)) (Some (y, rest)) → BeginsWith S bytes y rest
 begins_as {X} S {bytes} b e = subst (λ (z : X × List ℕ). BeginsWith S bytes z.0 z.1) (some_is _ _ e) b
 
 -- reading two parts of bytes that are joined of them

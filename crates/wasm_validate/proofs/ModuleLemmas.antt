@@ -48,22 +48,13 @@ drop_down es n e p h q =
 abbrev IsAmongNames : List ℕ → List Export → Bool
 IsAmongNames q es = list_any (λ (d : Export). bytes_eq d.name q) es
 
--- the name stands among those behind
-pub twice : (es : List Export) (n : ℕ) (e : Export) (q : List ℕ) → 0 < n → n ≤ length es → e ≡ get_or es (n - 1) e → q ≡ e.name → true ≡ list_any (λ (d : Export). bytes_eq d.name q) (drop n es) → false ≡ are_different es
-twice es n e q p h at name found =
-    sym (different_drop es (n - 1)
-    (ap are_different (drop_down es n e p h at)
-    ∙ ap (λ x. not (IsAmongNames x (drop n es)) && are_different (drop n es)) (sym name)
-    ∙ ap (λ x. not x && are_different (drop n es)) (sym found)))
-
--- the name doesn't
-pub once : (es : List Export) (n : ℕ) (e : Export) (q : List ℕ) → 0 < n → n ≤ length es → e ≡ get_or es (n - 1) e → q ≡ e.name → false ≡ list_any (λ (d : Export). bytes_eq d.name q) (drop n es) →
-    are_different (drop n es) ≡ true → are_different (drop (n - 1) es) ≡ true
-once es n e q p h at name absent rest =
+-- what the names are one export further on depends on whether its name stands among those behind
+pub different_down : (es : List Export) (n : ℕ) (e : Export) (q : List ℕ) (among : Bool) → 0 < n → n ≤ length es → e ≡ get_or es (n - 1) e → q ≡ e.name → among ≡ list_any (λ (d : Export). bytes_eq d.name q) (drop n es) →
+    are_different (drop (n - 1) es) ≡ (not among && are_different (drop n es))
+different_down es n e q among p h at name found =
     ap are_different (drop_down es n e p h at)
     ∙ ap (λ x. not (IsAmongNames x (drop n es)) && are_different (drop n es)) (sym name)
-    ∙ ap (λ x. not x && are_different (drop n es)) (sym absent)
-    ∙ rest
+    ∙ ap (λ x. not x && are_different (drop n es)) (sym found)
 
 pub seen_more : (es : List Export) (n : ℕ) (e : Export) (k q : List ℕ) (before after : Option (Unit {0})) → 0 < n → n ≤ length es → e ≡ get_or es (n - 1) e → k ≡ e.name →
     after ≡ cond (bytes_eq k q) (Some tt) before → is_some before ≡ list_any (λ (d : Export). bytes_eq d.name q) (drop n es) → is_some after ≡ list_any (λ (d : Export). bytes_eq d.name q) (drop (n - 1) es)

@@ -71,27 +71,21 @@ pop_operands-push (u ∷ ts) t s =
     ap (option_and_then (pop_expected u)) (pop_operands-push ts t s)
     ∙ (elim (pop_expected t s) as (λ o. option_and_then (pop_expected u) (option_and_then (pop_operands ts) o) ≡ option_and_then (pop_operands (u ∷ ts)) o) [ None ↦ refl | Some a ↦ refl ])
 
-pub pop_operands_more : (ts : List ValType) (k n : ℕ) (d : ValType) (s : Operands) → 0 < n → n ≤ length ts → k ≡ n - 1 → pop_operands (take n ts) s ≡ option_and_then (pop_operands (take k ts)) (pop_expected (get_or ts k d) s)
-pop_operands_more ts k n d s p h e =
-    let next : n ≡ k + 1 = omega arith in
-    ap (λ m. pop_operands (take m ts) s) next ∙ ap (λ us. pop_operands us s) (take_more ts k d (omega arith)) ∙ pop_operands-push (take k ts) (get_or ts k d) s
-
-pub pop_operands_stops : (ts : List ValType) (n : ℕ) (d : ValType) (s : Operands) (o : Option Operands) → 0 < n → n ≤ length ts → None ≡ pop_expected (get_or ts (n - 1) d) s → pop_operands (take n ts) s ≡ o → None ≡ o
-pop_operands_stops ts n d s o p h e q = ap (option_and_then (pop_operands (take (n - 1) ts))) e ∙ sym (pop_operands_more ts (n - 1) n d s p h refl) ∙ q
-
-pub pop_operands_goes : (ts : List ValType) (n : ℕ) (d : ValType) (s s' : Operands) (o : Option Operands) → 0 < n → n ≤ length ts → Some s' ≡ pop_expected (get_or ts (n - 1) d) s → pop_operands (take n ts) s ≡ o → pop_operands (take (n - 1) ts) s' ≡ o
-pop_operands_goes ts n d s s' o p h e q = ap (option_and_then (pop_operands (take (n - 1) ts))) e ∙ sym (pop_operands_more ts (n - 1) n d s p h refl) ∙ q
+-- the last of so many types is taken, or can't be
+pub pop_operands_next : (ts : List ValType) (n : ℕ) (d : ValType) (s : Operands) (below o : Option Operands) → 0 < n → n ≤ length ts → below ≡ pop_expected (get_or ts (n - 1) d) s → pop_operands (take n ts) s ≡ o → option_and_then (pop_operands (take (n - 1) ts)) below ≡ o
+pop_operands_next ts n d s below o p h e q =
+    let next : n ≡ n - 1 + 1 = omega arith in
+    ap (option_and_then (pop_operands (take (n - 1) ts))) e ∙ sym (pop_operands-push (take (n - 1) ts) (get_or ts (n - 1) d) s)
+    ∙ ap (λ us. pop_operands us s) (sym (take_more ts (n - 1) d (omega arith)) ∙ ap (λ m. take m ts) (sym next)) ∙ q
 
 -- each type may be taken where anything may stand
 pop_operands_any : (ts : List ValType) → pop_operands ts unreachable_operands ≡ Some unreachable_operands
 pop_operands_any [] = refl
 pop_operands_any (t ∷ ts) = ap (option_and_then (pop_expected t)) (pop_operands_any ts)
 
-pop_operands_unreachable : (ts : List ValType) (unreachable : Bool) (xs : List (Option ValType)) → true ≡ (unreachable && is_empty xs) →
-    Some (record { unreachable = unreachable; types = xs }) ≡ pop_operands ts (record { unreachable = unreachable; types = xs })
-pop_operands_unreachable ts true [] h = sym (pop_operands_any ts)
-pop_operands_unreachable ts true (x ∷ xs) h = absurd (cc)
-pop_operands_unreachable ts false xs h = absurd (cc)
-
 pub pop_operands_rest : (ts : List ValType) (n : ℕ) (s : Operands) (o : Option Operands) → true ≡ (s.unreachable && is_empty s.types) → pop_operands (take n ts) s ≡ o → Some s ≡ o
-pop_operands_rest ts n s o h q = pop_operands_unreachable (take n ts) s.unreachable s.types h ∙ q
+pop_operands_rest ts n s o h q = any s.unreachable s.types h ∙ q where
+  any : (unreachable : Bool) (xs : List (Option ValType)) → true ≡ (unreachable && is_empty xs) → Some (record { unreachable = unreachable; types = xs }) ≡ pop_operands (take n ts) (record { unreachable = unreachable; types = xs })
+  any true [] h = sym (pop_operands_any (take n ts))
+  any true (x ∷ xs) h = absurd (cc)
+  any false xs h = absurd (cc)

@@ -1,44 +1,51 @@
-use Rattle.std.proofs.Common.{◌+◌, ◌∷◌, [], List, ℕ, None, slice_index, arith, refl, sym, ap, ◌∙◌}
-use Rattle.wasm_decode.specs.declared.thin.ThinImport.TheVariants.{ProcExit, FdWrite}
-use Rattle.thin_interp.specs.GuestThread.{GuestThread, thread_of, arguments, answered}
-use Rattle.thin_interp.specs.Left.{steps_left}
-use Rattle.runner.specs.OneProcess.{reply_of, memory_after}
-use Rattle.runner.proofs.Found.{found_import, is_found}
-use Rattle.runner.proofs.Turns.{exit_leads, return_leads, write_leads, first_word, as_leads}
+use Rattle.std.proofs.Common.{◌≤◌, ◌-◌, sym, subst, ◌∙◌, arith}
+use Rattle.std.proofs.lemmas.Bool.{eq-eqb, ne_eqb}
+use Rattle.guest_state.specs.Snapshot.{thread_of}
+use Rattle.runner.specs.Standing.{LeadsOn, reply_entry}
+use Rattle.runner.proofs.Turns.{as_turn, fuel_leads, return_leads, spent_leads, trap_leads}
 use Rattle.runner.proofs.one.take_turn.Goals as goal
 
-pub unreachable-requires-in-None : goal.unreachable-requires-in-None
-unreachable-requires-in-None c =
-    let inside = is_found c.imports.result.now c.args.program.now.imports c.in-Call.import c.imports.ensures.imports c.arguments-arguments.ensures.known in
-    omega (arith, c.in-None.ensures.lookup.3)
+pub returns-then-ran-left-clause-leads : goal.returns-then-ran-left-clause-leads
+returns-then-ran-left-clause-leads c = λ world stands.
+    let program = c.args.program.now in
+    let m = program.module in
+    let ran = rw c.in-Spent.is at c.in_ok-ran.ensures.ran in
+    let none = eq-eqb (c.args.left - c.in_ok-ran.field-0.ran) 0 (omega (arith, c.if-ran-left.true)) in
+    as_turn world program c.run_slice.new.memory (thread_of m c.run_slice.new.thread) c.args.slice c.args.left _ _ _ _ c.end_turn.ensures.entry c.end_turn.ensures.ended
+    (fuel_leads world program c.args.memory.now (thread_of m c.args.thread.now) c.args.slice c.args.left stands c.min-most.result c.in_ok-ran.field-0.ran c.run_slice.new.memory (thread_of m c.run_slice.new.thread) c.min-most.ensures ran none)
+
+pub returns-else-ran-left-clause-leads : goal.returns-else-ran-left-clause-leads
+returns-else-ran-left-clause-leads c = λ world stands.
+    let program = c.args.program.now in
+    let m = program.module in
+    let n = c.in_ok-ran.field-0.ran in
+    let ran = rw c.in-Spent.is at c.in_ok-ran.ensures.ran in
+    let within : n ≤ c.args.left = omega (arith, ran.within, c.min-most.ensures) in
+    let some = ne_eqb (c.args.left - n) 0 (λ e. c.if-ran-left.false (omega (arith, e, within))) in
+    let entry = c.reply_turn.ensures.entry ∙ (λ i. reply_entry n 1 (record { errno = c.bare.ensures.errno i; bytes = c.bare.ensures.bytes i; place = c.bare.ensures.place i })) in
+    as_turn world program c.run_slice.new.memory (thread_of m c.run_slice.new.thread) c.args.slice c.args.left _ _ _ _ entry c.reply_turn.ensures.ended
+    (spent_leads world program c.args.memory.now (thread_of m c.args.thread.now) c.args.slice c.args.left stands c.min-most.result n c.run_slice.new.memory (thread_of m c.run_slice.new.thread) c.min-most.ensures ran some)
+
+pub returns-in-Trap-clause-leads : goal.returns-in-Trap-clause-leads
+returns-in-Trap-clause-leads c = λ world stands.
+    let program = c.args.program.now in
+    let m = program.module in
+    let ran = rw c.in-Trap.is at c.in_ok-ran.ensures.ran in
+    as_turn world program c.run_slice.new.memory (thread_of m c.run_slice.new.thread) c.args.slice c.args.left _ _ _ _ c.end_turn-in-Trap.ensures.entry c.end_turn-in-Trap.ensures.ended
+    (trap_leads world program c.args.memory.now (thread_of m c.args.thread.now) c.args.slice c.args.left stands c.min-most.result c.in_ok-ran.field-0.ran c.run_slice.new.memory (thread_of m c.run_slice.new.thread) c.min-most.ensures c.in-Trap.field-0 ran)
 
 pub returns-in-Finished-clause-leads : goal.returns-in-Finished-clause-leads
-returns-in-Finished-clause-leads c = λ world at.
-    let stops = rw c.in-Finished.is at c.in_ok-stopped.ensures.stops in
-    as_leads world c.args.program.now c.args.memory.now c.args.memory.now (thread_of c.args.program.now c.advance.new.thread) (thread_of c.args.program.now c.advance.new.thread) _ _ _ _ refl refl c.last_turn.ensures.entry c.last_turn.ensures.ended
-    (return_leads world c.args.program.now c.args.memory.now (thread_of c.args.program.now c.args.thread.now) (thread_of c.args.program.now c.advance.new.thread) c.in_ok-stopped.stopped.ran at
-    c.in_ok-stopped.ensures.steps c.in_ok-stopped.ensures.most stops (c.in_ok-stopped.ensures.main ∙ c.requires.main))
+returns-in-Finished-clause-leads c = λ world stands.
+    let program = c.args.program.now in
+    let m = program.module in
+    let ran = rw c.in-Finished.is at c.in_ok-ran.ensures.ran in
+    as_turn world program c.run_slice.new.memory (thread_of m c.run_slice.new.thread) c.args.slice c.args.left _ _ _ _ c.end_turn-in-Finished.ensures.entry c.end_turn-in-Finished.ensures.ended
+    (return_leads world program c.args.memory.now (thread_of m c.args.thread.now) c.args.slice c.args.left stands c.min-most.result c.in_ok-ran.field-0.ran c.run_slice.new.memory (thread_of m c.run_slice.new.thread) c.min-most.ensures ran (c.in_ok-ran.ensures.main ∙ c.requires.main))
 
-pub returns-in-Some-ProcExit-clause-leads : goal.returns-in-Some-ProcExit-clause-leads
-returns-in-Some-ProcExit-clause-leads c = λ world at.
-    let stops = rw c.in-Call.is at c.in_ok-stopped.ensures.stops in
-    let inside = is_found c.imports.result.now c.args.program.now.imports c.in-Call.import c.imports.ensures.imports c.arguments-arguments.ensures.known in
-    let known = found_import c.imports.result.now c.args.program.now.imports c.in-Call.import c.in-Some-ProcExit.field-0.now ProcExit c.imports.ensures.imports inside c.in-Some-ProcExit.ensures.lookup.1 c.in-Some-ProcExit.field-0-is in
-    let value = rw known at c.arguments-arguments.ensures.value in
-    let count = rw known at c.arguments-arguments.ensures.count in
-    as_leads world c.args.program.now c.args.memory.now c.args.memory.now (thread_of c.args.program.now c.advance.new.thread) (thread_of c.args.program.now c.advance.new.thread) _ _ _ _ refl refl c.last_turn-in-Some-ProcExit.ensures.entry c.last_turn-in-Some-ProcExit.ensures.ended
-    (exit_leads world c.args.program.now c.args.memory.now (thread_of c.args.program.now c.args.thread.now) (thread_of c.args.program.now c.advance.new.thread) c.in_ok-stopped.stopped.ran c.in-Call.import (slice_index c.arguments-arguments.result.now 0) c.arguments-arguments.result.now at
-    c.in_ok-stopped.ensures.steps c.in_ok-stopped.ensures.most stops known value (first_word c.arguments-arguments.result.now count))
-
-pub returns-in_ok-entry-in-Some-FdWrite-clause-leads : goal.returns-in_ok-entry-in-Some-FdWrite-clause-leads
-returns-in_ok-entry-in-Some-FdWrite-clause-leads c = λ world at.
-    let stops = rw c.in-Call.is at c.in_ok-stopped.ensures.stops in
-    let inside = is_found c.imports.result.now c.args.program.now.imports c.in-Call.import c.imports.ensures.imports c.arguments-arguments.ensures.known in
-    let known = found_import c.imports.result.now c.args.program.now.imports c.in-Call.import c.in-Some-FdWrite.field-0.now FdWrite c.imports.ensures.imports inside c.in-Some-FdWrite.ensures.lookup.1 c.in-Some-FdWrite.field-0-is in
-    let before : GuestThread = thread_of c.args.program.now c.advance.new.thread in
-    let args : List ℕ = arguments before 4 in
-    let one = sym (ap (λ (t : GuestThread). steps_left t + 1) c.in_ok-entry-in-Some-FdWrite.ensures.thread) ∙ c.in_ok-entry-in-Some-FdWrite.ensures.left in
-    as_leads world c.args.program.now c.write.new.memory (memory_after c.args.memory.now args) (thread_of c.args.program.now c.write.new.thread) (answered before 4 ((reply_of c.args.memory.now args).errno ∷ [])) _ _ None None
-    c.in_ok-entry-in-Some-FdWrite.ensures.memory c.in_ok-entry-in-Some-FdWrite.ensures.thread c.in_ok-entry-in-Some-FdWrite.ensures.entry refl
-    (write_leads world c.args.program.now c.args.memory.now (thread_of c.args.program.now c.args.thread.now) before c.in_ok-stopped.stopped.ran c.in-Call.import args at
-    c.in_ok-stopped.ensures.steps c.in_ok-stopped.ensures.most stops known refl c.in_ok-stopped.ensures.left one)
+pub returns-in_ok-called-in-Call-clause-leads : goal.returns-in_ok-called-in-Call-clause-leads
+returns-in_ok-called-in-Call-clause-leads c = λ world stands.
+    let program = c.args.program.now in
+    let m = program.module in
+    let ran = rw c.in-Call.is at c.in_ok-ran.ensures.ran in
+    let leads = c.in_ok-called-in-Call.ensures.leads world c.args.memory.now (thread_of m c.args.thread.now) c.args.slice c.args.left c.min-most.result stands c.min-most.ensures ran in
+    subst (λ n. LeadsOn world program c.call.new.memory (thread_of m c.call.new.thread) c.args.slice (c.args.left - n) c.in_ok-called-in-Call.called.entry c.in_ok-called-in-Call.called.ended) (sym c.in_ok-called-in-Call.ensures.ran) leads

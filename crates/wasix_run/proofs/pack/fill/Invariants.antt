@@ -1,4 +1,4 @@
-use Rattle.std.proofs.Common.{◌≡◌, Some, map, drop}
+use Rattle.std.proofs.Common.{◌≡◌, ℕ, List, Some, map, drop}
 use Rattle.wx_types.specs.Files.{Files}
 use Rattle.pack_list.specs.Answers.{seen}
 use Rattle.wasix_run.specs.Packing.{filled}
@@ -6,7 +6,7 @@ use Rattle.wasix_run.proofs.pack.fill.Given as goal
 
 abbrev pub invariant-files : goal.invariant-files
 invariant-files g l = record {
-  given : (held : Files) → g.H.Shelf.held l.fn.shelf ≡ Some held → filled held l.tree (map seen (drop l.index l.files)) ≡ filled held l.fn.tree (map seen l.files);
+  given : (held : Files) (out : List ℕ) → g.H.Shelf.held l.fn.shelf ≡ Some held → filled held out l.tree (map seen (drop l.index l.files)) ≡ filled held out l.fn.tree (map seen l.files);
   kept : g.H.Shelf.held l.shelf ≡ g.H.Shelf.held l.fn.shelf;
   faults : g.H.Shelf.faults l.shelf ≡ g.H.Shelf.faults l.fn.shelf;
 }

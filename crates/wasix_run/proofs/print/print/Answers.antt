@@ -1,7 +1,6 @@
-use Rattle.std.proofs.Common.{◌≡◌, ◌<◌, ◌+◌, ◌++◌, length, take, List, ℕ, Some, refl, arith, sym, subst, ap, ◌∙◌}
-use Rattle.wx_types.specs.declared.entries.Entry.{Entry}
-use Rattle.wx_types.specs.Outside.{followed_by, GrewByFront}
-use Rattle.wasix_run.specs.Printed.{piece, printed}
+use Rattle.std.proofs.Common.{◌<◌, ◌+◌, ◌++◌, length, take, List, ℕ, Some, refl, arith, sym, subst, ap, ◌∙◌}
+use Rattle.wx_types.specs.Outside.{GrewByFront}
+use Rattle.wasix_run.specs.Printed.{printed}
 use Rattle.wasix_run.proofs.Printing.{printed_more, told_more, front_more, none_within}
 use Rattle.wasix_run.proofs.print.print.Goals as goal
 

@@ -1,4 +1,4 @@
-use Rattle.std.proofs.Common.{◌≡◌, ◌≤◌, length, take}
+use Rattle.std.proofs.Common.{◌≡◌, length, take}
 use Rattle.wx_types.specs.Outside.{followed_by}
 use Rattle.wasix_run.specs.Printed.{printed}
 use Rattle.wasix_run.proofs.print.print.Given as goal

@@ -1,4 +1,0 @@
-pub mod After
-pub mod Calls
-pub mod AnyMemory
-pub mod Answered
