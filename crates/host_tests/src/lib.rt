@@ -5,5 +5,3 @@
 
 #[cfg(test)]
 mod objects;
-#[cfg(test)]
-mod requests;
