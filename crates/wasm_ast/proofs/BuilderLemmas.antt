@@ -25,11 +25,17 @@ plain_append (Plain i rest) t h k = (h.0, plain_append rest t h.1 k)
 plain_append (Block b of body rest) t h k = (h.0, plain_append rest t h.1 k)
 plain_append (If of then otherwise rest) t h k = (h.0, h.1, plain_append rest t h.2 k)
 
+sequences-append : (s t : Sequence) → inner_sequences (append s t) ≡ inner_sequences s ++ inner_sequences t
+sequences-append Empty t = refl
+sequences-append (Plain i rest) t = sequences-append rest t
+sequences-append (Block k of body rest) t = ap (λ ss. body ∷ inner_sequences body ++ ss) (sequences-append rest t) ∙ simp append_assoc
+sequences-append (If of then otherwise rest) t =
+    ap (λ ss. then ∷ inner_sequences then ++ (otherwise ∷ inner_sequences otherwise ++ ss)) (sequences-append rest t) ∙ simp append_assoc
+
 pub count-append : (s t : Sequence) → count (append s t) ≡ count s + count t
-count-append Empty t = omega arith
-count-append (Plain i rest) t = count-append rest t
-count-append (Block k of body rest) t = omega (arith, count-append rest t)
-count-append (If of then otherwise rest) t = omega (arith, count-append rest t)
+count-append s t =
+    let e = ap length (sequences-append s t) ∙ length-append (inner_sequences s) (inner_sequences t) in
+    omega (arith, length-inner_sequences (append s t), length-inner_sequences s, length-inner_sequences t)
 
 own-append : (n : ℕ) (s t : Sequence) → own_list n (append s t) ≡ own_list n s ++ own_list (n + count s) t
 own-append n Empty t = ap (λ m. own_list m t) (omega arith)
@@ -52,13 +58,6 @@ inner-append n (If of then otherwise rest) t =
     let m : l + count rest ≡ n + (2 + count then + count otherwise + count rest) = omega arith in
     let e = inner-append l rest t in
     rw (e, m) (simp append_assoc)
-
-sequences-append : (s t : Sequence) → inner_sequences (append s t) ≡ inner_sequences s ++ inner_sequences t
-sequences-append Empty t = refl
-sequences-append (Plain i rest) t = sequences-append rest t
-sequences-append (Block k of body rest) t = ap (λ ss. body ∷ inner_sequences body ++ ss) (sequences-append rest t) ∙ simp append_assoc
-sequences-append (If of then otherwise rest) t =
-    ap (λ ss. then ∷ inner_sequences then ++ (otherwise ∷ inner_sequences otherwise ++ ss)) (sequences-append rest t) ∙ simp append_assoc
 
 -- The builder's state is the view of its lists.
 found : (front u : Sequence) (back xs : List Sequence) → xs ≡ inner_sequences (append front (inner u)) ++ back → get_or xs (count front) Empty ≡ u

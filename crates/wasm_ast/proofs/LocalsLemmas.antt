@@ -6,24 +6,15 @@ use Rattle.wasm_ast.specs.declared.locals.LocalGroup.{LocalGroup}
 use Rattle.wasm_ast.specs.Types.{same_type}
 use Rattle.wasm_ast.specs.Locals.{total, joined, AreMerged, IsFollowedByOther, AreLocals}
 
--- a further group joins the last, at i
-pub joined-last : (gs : List LocalGroup) (g d : LocalGroup) (i : ℕ) → suc i ≡ length gs →
-    same_type (get_or gs i d).of g.of ≡ true →
-    joined gs g ≡ set gs i (record { count = (get_or gs i d).count + g.count; of = (get_or gs i d).of })
-joined-last [] g d i n h = absurd (omega arith)
-joined-last (x ∷ []) g d zero n h = rw h refl
-joined-last (x ∷ []) g d (suc i) n h = absurd (omega arith)
-joined-last (x ∷ y ∷ gs) g d zero n h = absurd (omega arith)
-joined-last (x ∷ y ∷ gs) g d (suc i) n h = ap (λ l. x ∷ l) (joined-last (y ∷ gs) g d i (omega arith) h)
-
--- or stands behind it
-pub joined-other : (gs : List LocalGroup) (g d : LocalGroup) (i : ℕ) → suc i ≡ length gs →
-    same_type (get_or gs i d).of g.of ≡ false → joined gs g ≡ gs ++ g ∷ []
-joined-other [] g d i n h = absurd (omega arith)
-joined-other (x ∷ []) g d zero n h = rw h refl
-joined-other (x ∷ []) g d (suc i) n h = absurd (omega arith)
-joined-other (x ∷ y ∷ gs) g d zero n h = absurd (omega arith)
-joined-other (x ∷ y ∷ gs) g d (suc i) n h = ap (λ l. x ∷ l) (joined-other (y ∷ gs) g d i (omega arith) h)
+-- a further group joins the last, at i, or stands behind it
+joined-last : (gs : List LocalGroup) (g d : LocalGroup) (i : ℕ) (same : Bool) → suc i ≡ length gs → same_type (get_or gs i d).of g.of ≡ same →
+    joined gs g ≡ cond same (set gs i (record { count = (get_or gs i d).count + g.count; of = (get_or gs i d).of })) (gs ++ g ∷ [])
+joined-last [] g d i same n h = absurd (omega arith)
+joined-last (x ∷ []) g d zero same n h = rw h refl
+joined-last (x ∷ []) g d (suc i) same n h = absurd (omega arith)
+joined-last (x ∷ y ∷ gs) g d zero same n h = absurd (omega arith)
+joined-last (x ∷ y ∷ gs) g d (suc i) true n h = ap (λ l. x ∷ l) (joined-last (y ∷ gs) g d i true (omega arith) h)
+joined-last (x ∷ y ∷ gs) g d (suc i) false n h = ap (λ l. x ∷ l) (joined-last (y ∷ gs) g d i false (omega arith) h)
 
 pub total-joined : (gs : List LocalGroup) (g : LocalGroup) → total (joined gs g) ≡ total gs + g.count
 total-joined [] g = omega arith
@@ -53,10 +44,10 @@ locals-joined gs g p a few = record { merged = merged-joined gs g p a.merged; fe
 -- the last group r, at i
 module _ (gs : List LocalGroup) (g r : LocalGroup) (i : ℕ) (n : suc i ≡ length gs) (e : r ≡ get_or gs i r) where
   pub joined_at : same_type r.of g.of ≡ true → set gs i (record { count = r.count + g.count; of = r.of }) ≡ joined gs g
-  joined_at = subst (λ (x : LocalGroup). same_type x.of g.of ≡ true → set gs i (record { count = x.count + g.count; of = x.of }) ≡ joined gs g) (sym e) (λ h. sym (joined-last gs g r i n h))
+  joined_at = subst (λ (x : LocalGroup). same_type x.of g.of ≡ true → set gs i (record { count = x.count + g.count; of = x.of }) ≡ joined gs g) (sym e) (λ h. sym (joined-last gs g r i true n h))
 
   pub joined_behind : same_type r.of g.of ≡ false → joined gs g ≡ gs ++ g ∷ []
-  joined_behind = subst (λ (x : LocalGroup). same_type x.of g.of ≡ false → joined gs g ≡ gs ++ g ∷ []) (sym e) (joined-other gs g r i n)
+  joined_behind = subst (λ (x : LocalGroup). same_type x.of g.of ≡ false → joined gs g ≡ gs ++ g ∷ []) (sym e) (joined-last gs g r i false n)
 
 count_get : (gs : List LocalGroup) (i : ℕ) (r : LocalGroup) → i < length gs → (get_or gs i r).count ≤ total gs
 count_get [] i r h = absurd (omega arith)

@@ -38,9 +38,6 @@ plain_names (instr.Loop of m) h = absurd h
 plain_names (instr.If of m n) h = absurd h
 plain_names _ h = refl
 
-times_append : (xs ys : List (List Instr)) (x : ℕ) → times_named (xs ++ ys) x ≡ times_named xs x + times_named ys x
-times_append xs ys x = ap (occurs x) (flat_map-append (λ is. flat_map names is) xs ys) ∙ occurs-append x (flat_map (λ is. flat_map names is) xs) (flat_map (λ is. flat_map names is) ys)
-
 times_cons : (is : List Instr) (lists : List (List Instr)) (x : ℕ) → times_named (is ∷ lists) x ≡ occurs x (flat_map names is) + times_named lists x
 times_cons is lists x = occurs-append x (flat_map names is) (flat_map (λ is. flat_map names is) lists)
 
@@ -59,12 +56,9 @@ once_in n (Block k of body rest) x p =
     let end = n + (1 + count body + count rest) in
     let m_is : (n + 1) + count body ≡ m = omega arith in
     let end_is : m + count rest ≡ end = omega arith in
-    let lists = times_cons (own_list (n + 1) body) (inner_lists (n + 1) body ++ inner_lists m rest) x in
-    let inner = times_append (inner_lists (n + 1) body) (inner_lists m rest) x in
-    let own = named_cons (block_instr k of n) (own_list m rest) x ∙ ap (λ ms. occurs x ms + occurs x (flat_map names (own_list m rest))) (block_named k of n) in
     let first = once_in (n + 1) body x p.0 ∙ ap (λ h. inside (n + 1) h x) m_is in
     let second = once_in m rest x p.1 ∙ ap (λ h. inside m h x) end_is in
-    omega (arith, occurs_one n x, inside_split n (n + 1) end x (omega arith) (omega arith), inside_split (n + 1) m end x (omega arith) (omega arith))
+    simp (block_named, occurs-append, flat_map-append) (omega (arith, occurs_one n x, inside_split n (n + 1) end x (omega arith) (omega arith), inside_split (n + 1) m end x (omega arith) (omega arith)))
 once_in n (If of then otherwise rest) x p =
     let h = n + (1 + count then) in
     let m = n + (2 + count then) in
@@ -74,17 +68,12 @@ once_in n (If of then otherwise rest) x p =
     let m_is : h + 1 ≡ m = omega arith in
     let l_is : m + count otherwise ≡ l = omega arith in
     let end_is : l + count rest ≡ end = omega arith in
-    let own = named_cons (instr.If of n h) (own_list l rest) x ∙ ap (λ t. t + occurs x (flat_map names (own_list l rest))) (occurs-append x (n ∷ []) (h ∷ [])) in
-    let a = times_cons (own_list (n + 1) then) (inner_lists (n + 1) then ++ (own_list m otherwise ∷ inner_lists m otherwise ++ inner_lists l rest)) x in
-    let b = times_append (inner_lists (n + 1) then) (own_list m otherwise ∷ inner_lists m otherwise ++ inner_lists l rest) x in
-    let c = times_cons (own_list m otherwise) (inner_lists m otherwise ++ inner_lists l rest) x in
-    let d = times_append (inner_lists m otherwise) (inner_lists l rest) x in
     let first = once_in (n + 1) then x p.0 ∙ ap (λ y. inside (n + 1) y x) h_is in
     let between = occurs_one h x ∙ ap (λ y. inside h y x) m_is in
     let second = once_in m otherwise x p.1 ∙ ap (λ y. inside m y x) l_is in
     let last = once_in l rest x p.2 ∙ ap (λ y. inside l y x) end_is in
     let split = λ (low mid : ℕ) (q : low ≤ mid) (r : mid ≤ end). inside_split low mid end x q r in
-    omega (arith, occurs_one n x, split n (n + 1) (omega arith) (omega arith), split (n + 1) h (omega arith) (omega arith), split h m (omega arith) (omega arith), split m l (omega arith) (omega arith))
+    simp (occurs-append, flat_map-append) (omega (arith, occurs_one n x, split n (n + 1) (omega arith) (omega arith), split (n + 1) h (omega arith) (omega arith), split h m (omega arith) (omega arith), split m l (omega arith) (omega arith)))
 
 -- the lists of a body are numbered as the type promises
 pub lists_numbered : (s : Sequence) → AllPlain s → IsNumbered (lists_of s)

@@ -1,5 +1,6 @@
 -- The tables of opcodes hold what the encoding of instructions says.
 use Rattle.std.proofs.Common.{◌≡◌, inl, inr, ℕ, zero, suc, ◌+◌, ◌≤◌, List, [], ◌∷◌, ◌++◌, length, get_or, Some, pos, refl, sym, ◌∙◌, ap, subst, arith}
+use Rattle.std.specs.Option.{unwrap_or}
 use Rattle.std.proofs.lemmas.Bool.Decides.{nat_tests}
 use Rattle.wasm_ast.specs.declared.types.IntType.TheVariants as int
 use Rattle.wasm_ast.specs.declared.instr.CompareOp.TheVariants.{Eq}
@@ -23,7 +24,7 @@ use Rattle.wasm_ast.specs.declared.opcode.Opcode.TheVariants as op
 use Rattle.wasm_ast.specs.declared.opcode.AtomicOpcode.{AtomicOpcode}
 use Rattle.wasm_ast.specs.declared.opcode.AtomicOpcode.TheVariants as atomic
 use Rattle.wasm_ast.specs.declared.opcode.TheConstants.{OPCODES, ATOMIC_OPCODES}
-use Rattle.wasm_ast.specs.Immediates.{Immediates, Nothing, Index, Labels, IndexAndZero, Argument, Zero, Signed32, Signed64, Raw, Never, Value, Spells}
+use Rattle.wasm_ast.specs.Immediates.{Immediates, Nothing, Index, Labels, IndexAndZero, Argument, Signed32, Signed64, Raw, Never, Value, Spells}
 use Rattle.wasm_ast.specs.Opcodes.{numeric_opcode, variable_opcode, access_opcode, encoding, float_immediates}
 use Rattle.wasm_ast.specs.OpcodeTables.{opcode_at, atomic_at, control, plan_of, atomic_plan_of, SpellsPlan, SpellsBehind}
 use Rattle.wasm_ast.specs.SpelledInstr.{SpellsPlain}
@@ -51,9 +52,7 @@ some_value Argument = record { align = 0; offset = 0 }
 some_value Signed32 = pos 0
 some_value Signed64 = pos 0
 some_value (Raw n) = []
-some_value Nothing = tt
-some_value Zero = tt
-some_value Never = tt
+some_value _ = tt
 
 -- the byte of an opcode, b where the encoding has none
 byte_of : ℕ → Opcode → List ℕ
@@ -130,21 +129,14 @@ behind_is_spelled b = told b (opcode_at b) (byte_is b) (float_is b)
 
 numeric_is : (o : NumericOp) → opcode_at (numeric_opcode o) ≡ op.Numeric o
 numeric_is (Eqz int.I32) = refl
-numeric_is (Eqz int.I64) = refl
 numeric_is (Compare int.I32 Eq) = refl
-numeric_is (Compare int.I32 o) = refl
 numeric_is (Compare int.I64 Eq) = refl
-numeric_is (Compare int.I64 o) = refl
 numeric_is (Unary int.I32 Clz) = refl
-numeric_is (Unary int.I32 o) = refl
 numeric_is (Unary int.I64 Clz) = refl
-numeric_is (Unary int.I64 o) = refl
 numeric_is (Binary int.I32 binary.Add) = refl
-numeric_is (Binary int.I32 o) = refl
 numeric_is (Binary int.I64 binary.Add) = refl
-numeric_is (Binary int.I64 o) = refl
 numeric_is (Convert Wrap) = refl
-numeric_is (Convert o) = refl
+numeric_is _ = refl
 
 variable_is : (o : VariableOp) → opcode_at (variable_opcode o) ≡ op.Variable o
 variable_is LocalGet = refl
@@ -158,14 +150,10 @@ Tabled (b ∷ bytes) i = SpellsBehind (opcode_at b) bytes i
 access_tabled : (o : Access) (bytes : List ℕ) (arg : MemArg) → Spells Argument bytes arg → Tabled (access_opcode o ++ bytes) (instr.Access o arg)
 unfolding Tabled
 access_tabled (Load load.I32) bytes arg s = (arg, s, refl)
-access_tabled (Load o) bytes arg s = (arg, s, refl)
 access_tabled (Store form.I32) bytes arg s = (arg, s, refl)
-access_tabled (Store o) bytes arg s = (arg, s, refl)
 access_tabled (Wait int.I32) bytes arg s = (arg, s, refl)
 access_tabled (AtomicLoad form.I32) bytes arg s = (arg, s, refl)
-access_tabled (AtomicLoad o) bytes arg s = (arg, s, refl)
 access_tabled (AtomicStore form.I32) bytes arg s = (arg, s, refl)
-access_tabled (AtomicStore o) bytes arg s = (arg, s, refl)
 access_tabled (AtomicRmw rmw.Add form.I32) bytes arg s = (arg, s, refl)
 access_tabled (AtomicRmw rmw.Sub form.I32) bytes arg s = (arg, s, refl)
 access_tabled (AtomicRmw rmw.And form.I32) bytes arg s = (arg, s, refl)
@@ -209,14 +197,8 @@ plain_begins i (inr h) = h.1
 
 -- ---- control
 
-control_byte : (b : ℕ) (o : Opcode) (c : ℕ) → control o ≡ Some c → byte_of b o ≡ b ∷ [] → b ≡ c
-unfolding byte_of
-control_byte b op.Block c h e = cc
-control_byte b op.Loop c h e = cc
-control_byte b op.If c h e = cc
-control_byte b op.Else c h e = cc
-control_byte b op.End c h e = cc
-control_byte b o c h e = cc h
+place : (b : ℕ) → unwrap_or (control (opcode_at b)) b ≡ b
+place b = each_is (λ k o. unwrap_or (control o) k) (λ k. k) 0 OPCODES op.Illegal refl (λ j h. refl) b b (omega arith)
 
 control_at : (o : Opcode) (c : ℕ) → control o ≡ Some c → opcode_at c ≡ o
 control_at op.Block c h = let e : 0x02 ≡ c = cc in subst (λ x. opcode_at x ≡ op.Block) e refl
@@ -227,7 +209,7 @@ control_at op.End c h = let e : 0x0B ≡ c = cc in subst (λ x. opcode_at x ≡ 
 control_at o c h = cc
 
 pub is_control : (b : ℕ) (o : Opcode) (c : ℕ) → control o ≡ Some c → opcode_at b ≡ o → b ≡ c
-is_control b o c h e = control_byte b o c h (ap (λ x. byte_of b x) (sym e) ∙ byte_is b)
+is_control b o c h e = sym (place b) ∙ ap (λ x. unwrap_or (control x) b) e ∙ ap (λ x. unwrap_or x b) h
 
 pub control_is : (b : ℕ) (o : Opcode) (c : ℕ) → control o ≡ Some c → b ≡ c → opcode_at b ≡ o
 control_is b o c h e = ap opcode_at e ∙ control_at o c h

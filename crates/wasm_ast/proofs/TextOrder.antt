@@ -109,31 +109,23 @@ holds-agrees front back n Empty xs h e = tt
 holds-agrees front back n (Plain i rest) xs h e = holds-agrees front back n rest xs h e
 holds-agrees front back n (Block k of body rest) xs h e =
     let first = front ++ body ∷ [] in
-    let second = first ++ inner_sequences body in
-    let l = length-append front (body ∷ []) in
-    let m = length-append first (inner_sequences body) in
-    let c = length-inner_sequences body in (
+    let second = first ++ inner_sequences body in (
       ap (λ ys. get_or ys n Empty) e ∙ at_front front ((inner_sequences body ++ inner_sequences rest) ++ back) body n h,
-      holds-agrees first (inner_sequences rest ++ back) (n + 1) body xs (omega arith) (e ∙ simp append_assoc),
-      holds-agrees second back (n + (1 + count body)) rest xs (omega arith) (e ∙ simp append_assoc),
+      holds-agrees first (inner_sequences rest ++ back) (n + 1) body xs (simp length-append (omega arith)) (e ∙ simp append_assoc),
+      holds-agrees second back (n + (1 + count body)) rest xs (simp (length-append, length-inner_sequences) (omega arith)) (e ∙ simp append_assoc),
     )
 holds-agrees front back n (If of then otherwise rest) xs h e =
     let first = front ++ then ∷ [] in
     let second = first ++ inner_sequences then in
     let third = second ++ otherwise ∷ [] in
     let fourth = third ++ inner_sequences otherwise in
-    let l = length-append front (then ∷ []) in
-    let m = length-append first (inner_sequences then) in
-    let k = length-append second (otherwise ∷ []) in
-    let j = length-append third (inner_sequences otherwise) in
-    let c = length-inner_sequences then in
-    let d = length-inner_sequences otherwise in
+    let long : length second ≡ n + (1 + count then) = simp (length-append, length-inner_sequences) (omega arith) in
     let parts : xs ≡ second ++ otherwise ∷ ((inner_sequences otherwise ++ inner_sequences rest) ++ back) = e ∙ simp append_assoc in (
       ap (λ ys. get_or ys n Empty) e ∙ at_front front ((inner_sequences then ++ (otherwise ∷ inner_sequences otherwise ++ inner_sequences rest)) ++ back) then n h,
-      holds-agrees first ((otherwise ∷ inner_sequences otherwise ++ inner_sequences rest) ++ back) (n + 1) then xs (omega arith) (e ∙ simp append_assoc),
-      ap (λ ys. get_or ys (n + (1 + count then)) Empty) parts ∙ at_front second ((inner_sequences otherwise ++ inner_sequences rest) ++ back) otherwise (n + (1 + count then)) (omega arith),
-      holds-agrees third (inner_sequences rest ++ back) (n + (2 + count then)) otherwise xs (omega arith) (e ∙ simp append_assoc),
-      holds-agrees fourth back (n + (2 + count then + count otherwise)) rest xs (omega arith) (e ∙ simp append_assoc),
+      holds-agrees first ((otherwise ∷ inner_sequences otherwise ++ inner_sequences rest) ++ back) (n + 1) then xs (simp length-append (omega arith)) (e ∙ simp append_assoc),
+      ap (λ ys. get_or ys (n + (1 + count then)) Empty) parts ∙ at_front second ((inner_sequences otherwise ++ inner_sequences rest) ++ back) otherwise (n + (1 + count then)) long,
+      holds-agrees third (inner_sequences rest ++ back) (n + (2 + count then)) otherwise xs (simp (length-append, length-inner_sequences) (omega arith)) (e ∙ simp append_assoc),
+      holds-agrees fourth back (n + (2 + count then + count otherwise)) rest xs (simp (length-append, length-inner_sequences) (omega arith)) (e ∙ simp append_assoc),
     )
 
 -- by its number, the sequence of a list is that of its instructions
@@ -242,8 +234,6 @@ nested-inner_lists s p n = nested_is (inner_lists 0 s) (λ m. get_or (inner_sequ
 -- without the instructions at its front
 front_behind : (F : ℕ → Sequence) (i : Instr) (s : Sequence) (n : ℕ) → behind (suc n) (in_front F i s) ≡ behind n s
 front_behind F (instr.Block of m) s n = refl
-front_behind F (instr.Loop of m) s n = refl
-front_behind F (instr.If of m k) s n = refl
 front_behind F _ s n = refl
 
 behind-sequence : (F : ℕ → Sequence) (n : ℕ) (is : List Instr) → behind n (sequence F is) ≡ sequence F (drop n is)

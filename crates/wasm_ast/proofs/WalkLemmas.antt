@@ -1,7 +1,8 @@
 -- A walk goes on event by event.
-use Rattle.std.proofs.Common.{◌≡◌, ℕ, Bool, false, ◌==◌, List, [], ◌∷◌, ◌++◌, length, reverse, Option, Some, None, refl, sym, ◌∙◌, ap, append_assoc, arith}
+use Rattle.std.proofs.Common.{◌≡◌, ℕ, suc, ◌-◌, ◌<◌, Bool, false, ◌==◌, List, [], ◌∷◌, ◌++◌, length, reverse, take, slice_index_or, slice_set, Option, Some, None, refl, sym, ◌∙◌, ap, append_assoc, arith}
 use Rattle.std.proofs.Math.Dec.{eqb-suc-zero}
-use Rattle.std.proofs.lemmas.List.{append-nil, reverse-append}
+use Rattle.std.proofs.Math.Seq.{set-append_seam, take-length, take-suc}
+use Rattle.std.proofs.lemmas.List.{append-nil, length-take-le, reverse-append}
 use Rattle.wasm_ast.specs.declared.instr.Instr.{Instr}
 use Rattle.wasm_ast.specs.declared.instr.Instr.TheVariants as instr
 use Rattle.wasm_ast.specs.declared.walk.{Inner.Inner, Outer.Outer}
@@ -22,24 +23,14 @@ front_events s i (Some o) behind = Begin o.construct o.of ∷ events (sequence_a
 
 front : (s : Sequence) (i : Instr) (rest : Sequence) → events (in_front (sequence_at s) i rest) ≡ front_events s i (opened_by i) (events rest)
 front s (instr.Block of body) rest = refl
-front s (instr.Loop of body) rest = refl
-front s (instr.If of then otherwise) rest = refl
 front s _ rest = refl
-
-pub over_plain : (s : Sequence) (i : Instr) (is : List Instr) (os : List Outer) → opened_by i ≡ None → walk_events s (i ∷ is) os ≡ Instruction i ∷ walk_events s is os
-over_plain s i is os p = rw (front s i (sequence (sequence_at s) is), p) refl
 
 pub into_list : (s : Sequence) (i : Instr) (is list : List Instr) (os : List Outer) (o : Inner) (outer : Outer) → opened_by i ≡ Some o → IsList s o.first list → outer.rest.now ≡ is → outer.second ≡ o.second →
     walk_events s (i ∷ is) os ≡ Begin o.construct o.of ∷ walk_events s list (outer ∷ os)
 into_list s i is list os o outer p l r t = rw (front s i (sequence (sequence_at s) is), p, r, t, ← l 0) (simp append_assoc)
 
-pub past_end : (s : Sequence) (o : Outer) (os : List Outer) → o.second ≡ None → walk_events s [] (o ∷ os) ≡ End ∷ walk_events s o.rest.now os
-past_end s o os p = rw p refl
-
 front_some : (F : ℕ → Sequence) (i : Instr) (rest : Sequence) → is_empty (in_front F i rest) ≡ false
 front_some F (instr.Block of body) rest = refl
-front_some F (instr.Loop of body) rest = refl
-front_some F (instr.If of then otherwise) rest = refl
 front_some F _ rest = refl
 
 pub empty_list : (F : ℕ → Sequence) (is : List Instr) → is_empty (sequence F is) ≡ (length is == 0)
@@ -63,8 +54,17 @@ none_left : (is : List Instr) → length is ≡ 0 → is ≡ []
 none_left [] h = refl
 none_left (i ∷ is) h = absurd (omega arith)
 
-pub else_next : (v : List Event) (s : Sequence) (all list : List Instr) (os1 os os' : List Outer) (o outer : Outer) (n : ℕ) (b : Bool) → walk_events s all (reverse os1) ≡ v → length all ≡ 0 → os1 ≡ os ++ o ∷ [] →
-    os' ≡ os ++ outer ∷ [] → o.second ≡ Some n → IsList s n list → outer.rest ≡ o.rest → outer.second ≡ None → b ≡ (length list == 0) → v ≡ Else b ∷ walk_events s list (reverse os')
-else_next v s all list os1 os os' o outer n b w a p q e l r t d =
-    sym w ∙ ap (λ js. walk_events s js (reverse os1)) (none_left all a) ∙ ap (walk_events s []) (last_first os os1 o p) ∙ into_second s o outer (reverse os) n list e l r t
-    ∙ ap (λ xs. Else (length list == 0) ∷ walk_events s list xs) (sym (last_first os os' outer q)) ∙ ap (λ c. Else c ∷ walk_events s list (reverse os')) (sym d)
+-- the last of the lists that are open, and another in its place
+lasts : (os : List Outer) (o outer : Outer) (m : ℕ) → m ≡ length os → 0 < m → o ≡ slice_index_or os (m - 1) o → (front : List Outer) × (os ≡ front ++ o ∷ []) × (slice_set os (m - 1) outer ≡ front ++ outer ∷ [])
+lasts os o outer m q h e =
+    let front = take (m - 1) os in
+    let same : os ≡ front ++ o ∷ [] = sym (take-length os) ∙ ap (λ k. take k os) {y = suc (m - 1)} (omega arith) ∙ take-suc os (m - 1) o (omega arith) ∙ ap (λ x. front ++ x ∷ []) (sym e) in
+    let size : m - 1 ≡ length front = sym (length-take-le (m - 1) os (omega arith)) in
+    (front, same, ap (λ xs. slice_set xs (m - 1) outer) same ∙ ap (λ k. slice_set (front ++ o ∷ []) k outer) size ∙ set-append_seam front o [] outer)
+
+pub else_next : (v : List Event) (s : Sequence) (all list : List Instr) (os : List Outer) (o outer : Outer) (m n : ℕ) (b : Bool) → walk_events s all (reverse os) ≡ v → length all ≡ 0 → m ≡ length os → 0 < m → o ≡ slice_index_or os (m - 1) o →
+    o.second ≡ Some n → IsList s n list → outer.rest ≡ o.rest → outer.second ≡ None → b ≡ (length list == 0) → v ≡ Else b ∷ walk_events s list (reverse (slice_set os (m - 1) outer))
+else_next v s all list os o outer m n b w a q h p e l r t d =
+    let f = lasts os o outer m q h p in
+    sym w ∙ ap (λ js. walk_events s js (reverse os)) (none_left all a) ∙ ap (walk_events s []) (last_first f.0 os o f.1) ∙ into_second s o outer (reverse f.0) n list e l r t
+    ∙ ap (λ xs. Else (length list == 0) ∷ walk_events s list xs) (sym (last_first f.0 _ outer f.2)) ∙ ap (λ c. Else c ∷ walk_events s list (reverse (slice_set os (m - 1) outer))) (sym d)

@@ -89,6 +89,7 @@ impl BodyBuilder {
     }
 
     /// Begins a block, a loop or an if of that type.
+    #[inline(always)]
     pub fn open(
         self,
         alloc: Global,
@@ -125,6 +126,7 @@ impl BodyBuilder {
     }
 
     /// Begins the second arm of the innermost construct.
+    #[inline(always)]
     pub fn else_(self, alloc: Global) -> Result<BodyBuilder, AllocError>
         requires { takes_else self.opens ≡ true }
         ensures { IfOk result (λ b. b ≡ with_else self) }
@@ -150,6 +152,7 @@ impl BodyBuilder {
     }
 
     /// Ends the innermost construct.
+    #[inline(always)]
     pub fn end(self, alloc: Global) -> Result<BodyBuilder, AllocError>
         requires { is_inside self.opens ≡ true }
         ensures { IfOk result (λ b. b ≡ with_end self) }
@@ -216,6 +219,7 @@ fn block_instr(kind: BlockKind, of: Option<ValType>, body: u32) -> Instr
 
 /// The instruction of a construct that ends, whose last list has that number. An if without a second
 /// arm gets a new empty list for it.
+#[inline(always)]
 fn wrapped(
     alloc: Global,
     lists: &mut Vec<Items<Instr>>,

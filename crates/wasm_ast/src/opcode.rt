@@ -2,7 +2,7 @@
 ghost use Rattle.std.specs.Prelude.{◌≡◌, ◌↔◌, ◌<◌, ◌∷◌, List, ℕ};
 ghost use Rattle.std.specs.Option.{option_to_list};
 ghost use Rattle.wasm_ast.specs.declared.instr.Instr.{Instr};
-ghost use Rattle.wasm_ast.specs.Opcodes.{compare_place, unary_place, binary_place, numeric_opcode, variable_opcode, load_opcode, store_opcode, form_place, rmw_opcode, access_opcode};
+ghost use Rattle.wasm_ast.specs.Opcodes.{numeric_opcode, variable_opcode, store_opcode, access_opcode};
 ghost use Rattle.wasm_ast.specs.SpelledInstr.{SpellsPlain};
 ghost use Rattle.wasm_ast.specs.OpcodeTables.{opcode_at, control, SpellsBehind};
 
@@ -10,36 +10,6 @@ use super::instr::{
     Access, BinaryOp, CompareOp, ConvertOp, Form, LoadOp, NumericOp, RmwOp, UnaryOp, VariableOp,
 };
 use super::types::IntType;
-
-impl CompareOp {
-    /// The place among the comparisons of its type.
-    fn place(self) -> u8
-        ensures place { result ≡ compare_place self }
-        ensures below { result < 10 }
-    {
-        self as u8
-    }
-}
-
-impl UnaryOp {
-    /// The place among the operators on one number of its type.
-    fn place(self) -> u8
-        ensures place { result ≡ unary_place self }
-        ensures below { result < 3 }
-    {
-        self as u8
-    }
-}
-
-impl BinaryOp {
-    /// The place among the operators on two numbers of its type.
-    fn place(self) -> u8
-        ensures place { result ≡ binary_place self }
-        ensures below { result < 15 }
-    {
-        self as u8
-    }
-}
 
 impl NumericOp {
     /// The opcode (5.4.5).
@@ -49,12 +19,12 @@ impl NumericOp {
         match self {
             NumericOp::Eqz(IntType::I32) => 0x45,
             NumericOp::Eqz(IntType::I64) => 0x50,
-            NumericOp::Compare(IntType::I32, op) => 0x46 + op.place(),
-            NumericOp::Compare(IntType::I64, op) => 0x51 + op.place(),
-            NumericOp::Unary(IntType::I32, op) => 0x67 + op.place(),
-            NumericOp::Unary(IntType::I64, op) => 0x79 + op.place(),
-            NumericOp::Binary(IntType::I32, op) => 0x6A + op.place(),
-            NumericOp::Binary(IntType::I64, op) => 0x7C + op.place(),
+            NumericOp::Compare(IntType::I32, op) => 0x46 + op as u8,
+            NumericOp::Compare(IntType::I64, op) => 0x51 + op as u8,
+            NumericOp::Unary(IntType::I32, op) => 0x67 + op as u8,
+            NumericOp::Unary(IntType::I64, op) => 0x79 + op as u8,
+            NumericOp::Binary(IntType::I32, op) => 0x6A + op as u8,
+            NumericOp::Binary(IntType::I64, op) => 0x7C + op as u8,
             NumericOp::Convert(ConvertOp::Wrap) => 0xA7,
             NumericOp::Convert(ConvertOp::ExtendS) => 0xAC,
             NumericOp::Convert(ConvertOp::ExtendU) => 0xAD,
@@ -71,34 +41,7 @@ impl VariableOp {
     }
 }
 
-impl LoadOp {
-    /// The opcode (5.4.4).
-    fn opcode(self) -> u8
-        ensures { result ≡ load_opcode self }
-    {
-        self as u8
-    }
-}
-
-impl RmwOp {
-    /// The byte behind FE of that of a whole i32.
-    fn opcode(self) -> u8
-        ensures opcode { result ≡ rmw_opcode self }
-        ensures below { result < 0x48 }
-    {
-        self as u8
-    }
-}
-
 impl Form {
-    /// The place among the seven forms of an atomic operator.
-    fn place(self) -> u8
-        ensures place { result ≡ form_place self }
-        ensures below { result < 7 }
-    {
-        self as u8
-    }
-
     /// The opcode of a store that isn't atomic (5.4.4).
     fn store_opcode(self) -> u8
         ensures { result ≡ store_opcode self }
@@ -121,15 +64,15 @@ impl Access {
         ensures { result.0 ∷ option_to_list result.1 ≡ access_opcode self }
     {
         match self {
-            Access::Load(op) => (op.opcode(), None),
+            Access::Load(op) => (op as u8, None),
             Access::Store(of) => (of.store_opcode(), None),
             Access::Notify => (0xFE, Some(0x00)),
             Access::Wait(IntType::I32) => (0xFE, Some(0x01)),
             Access::Wait(IntType::I64) => (0xFE, Some(0x02)),
-            Access::AtomicLoad(of) => (0xFE, Some(0x10 + of.place())),
-            Access::AtomicStore(of) => (0xFE, Some(0x17 + of.place())),
-            Access::AtomicRmw(op, of) => (0xFE, Some(op.opcode() + of.place())),
-            Access::AtomicCompareExchange(of) => (0xFE, Some(0x48 + of.place())),
+            Access::AtomicLoad(of) => (0xFE, Some(0x10 + of as u8)),
+            Access::AtomicStore(of) => (0xFE, Some(0x17 + of as u8)),
+            Access::AtomicRmw(op, of) => (0xFE, Some(op as u8 + of as u8)),
+            Access::AtomicCompareExchange(of) => (0xFE, Some(0x48 + of as u8)),
         }
     }
 }
@@ -201,20 +144,80 @@ pub enum AtomicOpcode {
     Access(Access),
 }
 
+/// The entries in brackets, and then those of each item: one value at some places, the comparisons or
+/// the other operators of a type, an atomic access in its forms, or a list of values.
+macro_rules! table {
+    ([$($entry:expr),*]) => { [$($entry),*] };
+    (@ $place:tt $value:expr) => { $value };
+    ([$($entry:expr),*] at [$($place:tt)*] $value:expr; $($item:tt)*) => {
+        table!([$($entry,)* $(table!(@ $place $value)),*] $($item)*)
+    };
+    ([$($entry:expr),*] comparisons $of:ident; $($item:tt)*) => {
+        table!([
+            $($entry,)*
+            Opcode::Numeric(NumericOp::Compare(IntType::$of, CompareOp::Eq)),
+            Opcode::Numeric(NumericOp::Compare(IntType::$of, CompareOp::Ne)),
+            Opcode::Numeric(NumericOp::Compare(IntType::$of, CompareOp::LtS)),
+            Opcode::Numeric(NumericOp::Compare(IntType::$of, CompareOp::LtU)),
+            Opcode::Numeric(NumericOp::Compare(IntType::$of, CompareOp::GtS)),
+            Opcode::Numeric(NumericOp::Compare(IntType::$of, CompareOp::GtU)),
+            Opcode::Numeric(NumericOp::Compare(IntType::$of, CompareOp::LeS)),
+            Opcode::Numeric(NumericOp::Compare(IntType::$of, CompareOp::LeU)),
+            Opcode::Numeric(NumericOp::Compare(IntType::$of, CompareOp::GeS)),
+            Opcode::Numeric(NumericOp::Compare(IntType::$of, CompareOp::GeU))
+        ] $($item)*)
+    };
+    ([$($entry:expr),*] operators $of:ident; $($item:tt)*) => {
+        table!([
+            $($entry,)*
+            Opcode::Numeric(NumericOp::Unary(IntType::$of, UnaryOp::Clz)),
+            Opcode::Numeric(NumericOp::Unary(IntType::$of, UnaryOp::Ctz)),
+            Opcode::Numeric(NumericOp::Unary(IntType::$of, UnaryOp::Popcnt)),
+            Opcode::Numeric(NumericOp::Binary(IntType::$of, BinaryOp::Add)),
+            Opcode::Numeric(NumericOp::Binary(IntType::$of, BinaryOp::Sub)),
+            Opcode::Numeric(NumericOp::Binary(IntType::$of, BinaryOp::Mul)),
+            Opcode::Numeric(NumericOp::Binary(IntType::$of, BinaryOp::DivS)),
+            Opcode::Numeric(NumericOp::Binary(IntType::$of, BinaryOp::DivU)),
+            Opcode::Numeric(NumericOp::Binary(IntType::$of, BinaryOp::RemS)),
+            Opcode::Numeric(NumericOp::Binary(IntType::$of, BinaryOp::RemU)),
+            Opcode::Numeric(NumericOp::Binary(IntType::$of, BinaryOp::And)),
+            Opcode::Numeric(NumericOp::Binary(IntType::$of, BinaryOp::Or)),
+            Opcode::Numeric(NumericOp::Binary(IntType::$of, BinaryOp::Xor)),
+            Opcode::Numeric(NumericOp::Binary(IntType::$of, BinaryOp::Shl)),
+            Opcode::Numeric(NumericOp::Binary(IntType::$of, BinaryOp::ShrS)),
+            Opcode::Numeric(NumericOp::Binary(IntType::$of, BinaryOp::ShrU)),
+            Opcode::Numeric(NumericOp::Binary(IntType::$of, BinaryOp::Rotl)),
+            Opcode::Numeric(NumericOp::Binary(IntType::$of, BinaryOp::Rotr))
+        ] $($item)*)
+    };
+    ([$($entry:expr),*] forms $access:ident $(of $op:ident)?; $($item:tt)*) => {
+        table!([
+            $($entry,)*
+            AtomicOpcode::Access(Access::$access($(RmwOp::$op,)? Form::I32)),
+            AtomicOpcode::Access(Access::$access($(RmwOp::$op,)? Form::I64)),
+            AtomicOpcode::Access(Access::$access($(RmwOp::$op,)? Form::I32Low8)),
+            AtomicOpcode::Access(Access::$access($(RmwOp::$op,)? Form::I32Low16)),
+            AtomicOpcode::Access(Access::$access($(RmwOp::$op,)? Form::I64Low8)),
+            AtomicOpcode::Access(Access::$access($(RmwOp::$op,)? Form::I64Low16)),
+            AtomicOpcode::Access(Access::$access($(RmwOp::$op,)? Form::I64Low32))
+        ] $($item)*)
+    };
+    ([$($entry:expr),*] $($value:expr),+; $($item:tt)*) => {
+        table!([$($entry,)* $($value),+] $($item)*)
+    };
+}
+
 /// What each byte begins as the first of an instruction, by its value.
-pub static OPCODES: [Opcode; 256] = [
+pub static OPCODES: [Opcode; 256] = table! {
+    []
     // 00
     Opcode::Unreachable,
     Opcode::Nop,
     Opcode::Block,
     Opcode::Loop,
     Opcode::If,
-    Opcode::Else,
-    Opcode::Illegal,
-    Opcode::Illegal,
-    Opcode::Illegal,
-    Opcode::Illegal,
-    Opcode::Illegal,
+    Opcode::Else;
+    at [6 7 8 9 A] Opcode::Illegal;
     Opcode::End,
     Opcode::Br,
     Opcode::BrIf,
@@ -222,34 +225,21 @@ pub static OPCODES: [Opcode; 256] = [
     Opcode::Return,
     // 10
     Opcode::Call,
-    Opcode::CallIndirect,
-    Opcode::Illegal,
-    Opcode::Illegal,
-    Opcode::Illegal,
-    Opcode::Illegal,
-    Opcode::Illegal,
-    Opcode::Illegal,
-    Opcode::Illegal,
-    Opcode::Illegal,
+    Opcode::CallIndirect;
+    at [2 3 4 5 6 7 8 9] Opcode::Illegal;
     Opcode::Drop,
-    Opcode::Select,
-    Opcode::Illegal,
-    Opcode::Illegal,
-    Opcode::Illegal,
-    Opcode::Illegal,
+    Opcode::Select;
+    at [C D E F] Opcode::Illegal;
     // 20
     Opcode::Variable(VariableOp::LocalGet),
     Opcode::Variable(VariableOp::LocalSet),
     Opcode::Variable(VariableOp::LocalTee),
     Opcode::Variable(VariableOp::GlobalGet),
-    Opcode::Variable(VariableOp::GlobalSet),
-    Opcode::Illegal,
-    Opcode::Illegal,
-    Opcode::Illegal,
+    Opcode::Variable(VariableOp::GlobalSet);
+    at [5 6 7] Opcode::Illegal;
     Opcode::Access(Access::Load(LoadOp::I32)),
-    Opcode::Access(Access::Load(LoadOp::I64)),
-    Opcode::FloatAccess,
-    Opcode::FloatAccess,
+    Opcode::Access(Access::Load(LoadOp::I64));
+    at [A B] Opcode::FloatAccess;
     Opcode::Access(Access::Load(LoadOp::I32From8S)),
     Opcode::Access(Access::Load(LoadOp::I32From8U)),
     Opcode::Access(Access::Load(LoadOp::I32From16S)),
@@ -262,9 +252,8 @@ pub static OPCODES: [Opcode; 256] = [
     Opcode::Access(Access::Load(LoadOp::I64From32S)),
     Opcode::Access(Access::Load(LoadOp::I64From32U)),
     Opcode::Access(Access::Store(Form::I32)),
-    Opcode::Access(Access::Store(Form::I64)),
-    Opcode::FloatAccess,
-    Opcode::FloatAccess,
+    Opcode::Access(Access::Store(Form::I64));
+    at [8 9] Opcode::FloatAccess;
     Opcode::Access(Access::Store(Form::I32Low8)),
     Opcode::Access(Access::Store(Form::I32Low16)),
     Opcode::Access(Access::Store(Form::I64Low8)),
@@ -277,293 +266,61 @@ pub static OPCODES: [Opcode; 256] = [
     Opcode::I64Const,
     Opcode::F32Const,
     Opcode::F64Const,
-    Opcode::Numeric(NumericOp::Eqz(IntType::I32)),
-    Opcode::Numeric(NumericOp::Compare(IntType::I32, CompareOp::Eq)),
-    Opcode::Numeric(NumericOp::Compare(IntType::I32, CompareOp::Ne)),
-    Opcode::Numeric(NumericOp::Compare(IntType::I32, CompareOp::LtS)),
-    Opcode::Numeric(NumericOp::Compare(IntType::I32, CompareOp::LtU)),
-    Opcode::Numeric(NumericOp::Compare(IntType::I32, CompareOp::GtS)),
-    Opcode::Numeric(NumericOp::Compare(IntType::I32, CompareOp::GtU)),
-    Opcode::Numeric(NumericOp::Compare(IntType::I32, CompareOp::LeS)),
-    Opcode::Numeric(NumericOp::Compare(IntType::I32, CompareOp::LeU)),
-    Opcode::Numeric(NumericOp::Compare(IntType::I32, CompareOp::GeS)),
-    Opcode::Numeric(NumericOp::Compare(IntType::I32, CompareOp::GeU)),
+    Opcode::Numeric(NumericOp::Eqz(IntType::I32));
+    comparisons I32;
     // 50
-    Opcode::Numeric(NumericOp::Eqz(IntType::I64)),
-    Opcode::Numeric(NumericOp::Compare(IntType::I64, CompareOp::Eq)),
-    Opcode::Numeric(NumericOp::Compare(IntType::I64, CompareOp::Ne)),
-    Opcode::Numeric(NumericOp::Compare(IntType::I64, CompareOp::LtS)),
-    Opcode::Numeric(NumericOp::Compare(IntType::I64, CompareOp::LtU)),
-    Opcode::Numeric(NumericOp::Compare(IntType::I64, CompareOp::GtS)),
-    Opcode::Numeric(NumericOp::Compare(IntType::I64, CompareOp::GtU)),
-    Opcode::Numeric(NumericOp::Compare(IntType::I64, CompareOp::LeS)),
-    Opcode::Numeric(NumericOp::Compare(IntType::I64, CompareOp::LeU)),
-    Opcode::Numeric(NumericOp::Compare(IntType::I64, CompareOp::GeS)),
-    Opcode::Numeric(NumericOp::Compare(IntType::I64, CompareOp::GeU)),
-    Opcode::Float,
-    Opcode::Float,
-    Opcode::Float,
-    Opcode::Float,
-    Opcode::Float,
+    Opcode::Numeric(NumericOp::Eqz(IntType::I64));
+    comparisons I64;
+    at [B C D E F] Opcode::Float;
     // 60
-    Opcode::Float,
-    Opcode::Float,
-    Opcode::Float,
-    Opcode::Float,
-    Opcode::Float,
-    Opcode::Float,
-    Opcode::Float,
-    Opcode::Numeric(NumericOp::Unary(IntType::I32, UnaryOp::Clz)),
-    Opcode::Numeric(NumericOp::Unary(IntType::I32, UnaryOp::Ctz)),
-    Opcode::Numeric(NumericOp::Unary(IntType::I32, UnaryOp::Popcnt)),
-    Opcode::Numeric(NumericOp::Binary(IntType::I32, BinaryOp::Add)),
-    Opcode::Numeric(NumericOp::Binary(IntType::I32, BinaryOp::Sub)),
-    Opcode::Numeric(NumericOp::Binary(IntType::I32, BinaryOp::Mul)),
-    Opcode::Numeric(NumericOp::Binary(IntType::I32, BinaryOp::DivS)),
-    Opcode::Numeric(NumericOp::Binary(IntType::I32, BinaryOp::DivU)),
-    Opcode::Numeric(NumericOp::Binary(IntType::I32, BinaryOp::RemS)),
-    // 70
-    Opcode::Numeric(NumericOp::Binary(IntType::I32, BinaryOp::RemU)),
-    Opcode::Numeric(NumericOp::Binary(IntType::I32, BinaryOp::And)),
-    Opcode::Numeric(NumericOp::Binary(IntType::I32, BinaryOp::Or)),
-    Opcode::Numeric(NumericOp::Binary(IntType::I32, BinaryOp::Xor)),
-    Opcode::Numeric(NumericOp::Binary(IntType::I32, BinaryOp::Shl)),
-    Opcode::Numeric(NumericOp::Binary(IntType::I32, BinaryOp::ShrS)),
-    Opcode::Numeric(NumericOp::Binary(IntType::I32, BinaryOp::ShrU)),
-    Opcode::Numeric(NumericOp::Binary(IntType::I32, BinaryOp::Rotl)),
-    Opcode::Numeric(NumericOp::Binary(IntType::I32, BinaryOp::Rotr)),
-    Opcode::Numeric(NumericOp::Unary(IntType::I64, UnaryOp::Clz)),
-    Opcode::Numeric(NumericOp::Unary(IntType::I64, UnaryOp::Ctz)),
-    Opcode::Numeric(NumericOp::Unary(IntType::I64, UnaryOp::Popcnt)),
-    Opcode::Numeric(NumericOp::Binary(IntType::I64, BinaryOp::Add)),
-    Opcode::Numeric(NumericOp::Binary(IntType::I64, BinaryOp::Sub)),
-    Opcode::Numeric(NumericOp::Binary(IntType::I64, BinaryOp::Mul)),
-    Opcode::Numeric(NumericOp::Binary(IntType::I64, BinaryOp::DivS)),
-    // 80
-    Opcode::Numeric(NumericOp::Binary(IntType::I64, BinaryOp::DivU)),
-    Opcode::Numeric(NumericOp::Binary(IntType::I64, BinaryOp::RemS)),
-    Opcode::Numeric(NumericOp::Binary(IntType::I64, BinaryOp::RemU)),
-    Opcode::Numeric(NumericOp::Binary(IntType::I64, BinaryOp::And)),
-    Opcode::Numeric(NumericOp::Binary(IntType::I64, BinaryOp::Or)),
-    Opcode::Numeric(NumericOp::Binary(IntType::I64, BinaryOp::Xor)),
-    Opcode::Numeric(NumericOp::Binary(IntType::I64, BinaryOp::Shl)),
-    Opcode::Numeric(NumericOp::Binary(IntType::I64, BinaryOp::ShrS)),
-    Opcode::Numeric(NumericOp::Binary(IntType::I64, BinaryOp::ShrU)),
-    Opcode::Numeric(NumericOp::Binary(IntType::I64, BinaryOp::Rotl)),
-    Opcode::Numeric(NumericOp::Binary(IntType::I64, BinaryOp::Rotr)),
-    Opcode::Float,
-    Opcode::Float,
-    Opcode::Float,
-    Opcode::Float,
-    Opcode::Float,
+    at [0 1 2 3 4 5 6] Opcode::Float;
+    operators I32;
+    operators I64;
+    // 8B
+    at [B C D E F] Opcode::Float;
     // 90
-    Opcode::Float,
-    Opcode::Float,
-    Opcode::Float,
-    Opcode::Float,
-    Opcode::Float,
-    Opcode::Float,
-    Opcode::Float,
-    Opcode::Float,
-    Opcode::Float,
-    Opcode::Float,
-    Opcode::Float,
-    Opcode::Float,
-    Opcode::Float,
-    Opcode::Float,
-    Opcode::Float,
-    Opcode::Float,
+    at [0 1 2 3 4 5 6 7 8 9 A B C D E F] Opcode::Float;
     // A0
-    Opcode::Float,
-    Opcode::Float,
-    Opcode::Float,
-    Opcode::Float,
-    Opcode::Float,
-    Opcode::Float,
-    Opcode::Float,
-    Opcode::Numeric(NumericOp::Convert(ConvertOp::Wrap)),
-    Opcode::Float,
-    Opcode::Float,
-    Opcode::Float,
-    Opcode::Float,
+    at [0 1 2 3 4 5 6] Opcode::Float;
+    Opcode::Numeric(NumericOp::Convert(ConvertOp::Wrap));
+    at [8 9 A B] Opcode::Float;
     Opcode::Numeric(NumericOp::Convert(ConvertOp::ExtendS)),
-    Opcode::Numeric(NumericOp::Convert(ConvertOp::ExtendU)),
-    Opcode::Float,
-    Opcode::Float,
+    Opcode::Numeric(NumericOp::Convert(ConvertOp::ExtendU));
+    at [E F] Opcode::Float;
     // B0
-    Opcode::Float,
-    Opcode::Float,
-    Opcode::Float,
-    Opcode::Float,
-    Opcode::Float,
-    Opcode::Float,
-    Opcode::Float,
-    Opcode::Float,
-    Opcode::Float,
-    Opcode::Float,
-    Opcode::Float,
-    Opcode::Float,
-    Opcode::Float,
-    Opcode::Float,
-    Opcode::Float,
-    Opcode::Float,
+    at [0 1 2 3 4 5 6 7 8 9 A B C D E F] Opcode::Float;
     // C0
-    Opcode::Illegal,
-    Opcode::Illegal,
-    Opcode::Illegal,
-    Opcode::Illegal,
-    Opcode::Illegal,
-    Opcode::Illegal,
-    Opcode::Illegal,
-    Opcode::Illegal,
-    Opcode::Illegal,
-    Opcode::Illegal,
-    Opcode::Illegal,
-    Opcode::Illegal,
-    Opcode::Illegal,
-    Opcode::Illegal,
-    Opcode::Illegal,
-    Opcode::Illegal,
+    at [0 1 2 3 4 5 6 7 8 9 A B C D E F] Opcode::Illegal;
     // D0
-    Opcode::Illegal,
-    Opcode::Illegal,
-    Opcode::Illegal,
-    Opcode::Illegal,
-    Opcode::Illegal,
-    Opcode::Illegal,
-    Opcode::Illegal,
-    Opcode::Illegal,
-    Opcode::Illegal,
-    Opcode::Illegal,
-    Opcode::Illegal,
-    Opcode::Illegal,
-    Opcode::Illegal,
-    Opcode::Illegal,
-    Opcode::Illegal,
-    Opcode::Illegal,
+    at [0 1 2 3 4 5 6 7 8 9 A B C D E F] Opcode::Illegal;
     // E0
-    Opcode::Illegal,
-    Opcode::Illegal,
-    Opcode::Illegal,
-    Opcode::Illegal,
-    Opcode::Illegal,
-    Opcode::Illegal,
-    Opcode::Illegal,
-    Opcode::Illegal,
-    Opcode::Illegal,
-    Opcode::Illegal,
-    Opcode::Illegal,
-    Opcode::Illegal,
-    Opcode::Illegal,
-    Opcode::Illegal,
-    Opcode::Illegal,
-    Opcode::Illegal,
+    at [0 1 2 3 4 5 6 7 8 9 A B C D E F] Opcode::Illegal;
     // F0
-    Opcode::Illegal,
-    Opcode::Illegal,
-    Opcode::Illegal,
-    Opcode::Illegal,
-    Opcode::Illegal,
-    Opcode::Illegal,
-    Opcode::Illegal,
-    Opcode::Illegal,
-    Opcode::Illegal,
-    Opcode::Illegal,
-    Opcode::Illegal,
-    Opcode::Illegal,
-    Opcode::Illegal,
-    Opcode::Illegal,
+    at [0 1 2 3 4 5 6 7 8 9 A B C D] Opcode::Illegal;
     Opcode::Atomic,
-    Opcode::Illegal,
-];
+    Opcode::Illegal;
+};
 
 /// What each byte begins behind the opcode FE, by its value.
-pub static ATOMIC_OPCODES: [AtomicOpcode; 79] = [
+pub static ATOMIC_OPCODES: [AtomicOpcode; 79] = table! {
+    []
     // 00
     AtomicOpcode::Access(Access::Notify),
     AtomicOpcode::Access(Access::Wait(IntType::I32)),
     AtomicOpcode::Access(Access::Wait(IntType::I64)),
-    AtomicOpcode::Fence,
-    AtomicOpcode::Illegal,
-    AtomicOpcode::Illegal,
-    AtomicOpcode::Illegal,
-    AtomicOpcode::Illegal,
-    AtomicOpcode::Illegal,
-    AtomicOpcode::Illegal,
-    AtomicOpcode::Illegal,
-    AtomicOpcode::Illegal,
-    AtomicOpcode::Illegal,
-    AtomicOpcode::Illegal,
-    AtomicOpcode::Illegal,
-    AtomicOpcode::Illegal,
+    AtomicOpcode::Fence;
+    at [4 5 6 7 8 9 A B C D E F] AtomicOpcode::Illegal;
     // 10
-    AtomicOpcode::Access(Access::AtomicLoad(Form::I32)),
-    AtomicOpcode::Access(Access::AtomicLoad(Form::I64)),
-    AtomicOpcode::Access(Access::AtomicLoad(Form::I32Low8)),
-    AtomicOpcode::Access(Access::AtomicLoad(Form::I32Low16)),
-    AtomicOpcode::Access(Access::AtomicLoad(Form::I64Low8)),
-    AtomicOpcode::Access(Access::AtomicLoad(Form::I64Low16)),
-    AtomicOpcode::Access(Access::AtomicLoad(Form::I64Low32)),
-    AtomicOpcode::Access(Access::AtomicStore(Form::I32)),
-    AtomicOpcode::Access(Access::AtomicStore(Form::I64)),
-    AtomicOpcode::Access(Access::AtomicStore(Form::I32Low8)),
-    AtomicOpcode::Access(Access::AtomicStore(Form::I32Low16)),
-    AtomicOpcode::Access(Access::AtomicStore(Form::I64Low8)),
-    AtomicOpcode::Access(Access::AtomicStore(Form::I64Low16)),
-    AtomicOpcode::Access(Access::AtomicStore(Form::I64Low32)),
-    AtomicOpcode::Access(Access::AtomicRmw(RmwOp::Add, Form::I32)),
-    AtomicOpcode::Access(Access::AtomicRmw(RmwOp::Add, Form::I64)),
-    // 20
-    AtomicOpcode::Access(Access::AtomicRmw(RmwOp::Add, Form::I32Low8)),
-    AtomicOpcode::Access(Access::AtomicRmw(RmwOp::Add, Form::I32Low16)),
-    AtomicOpcode::Access(Access::AtomicRmw(RmwOp::Add, Form::I64Low8)),
-    AtomicOpcode::Access(Access::AtomicRmw(RmwOp::Add, Form::I64Low16)),
-    AtomicOpcode::Access(Access::AtomicRmw(RmwOp::Add, Form::I64Low32)),
-    AtomicOpcode::Access(Access::AtomicRmw(RmwOp::Sub, Form::I32)),
-    AtomicOpcode::Access(Access::AtomicRmw(RmwOp::Sub, Form::I64)),
-    AtomicOpcode::Access(Access::AtomicRmw(RmwOp::Sub, Form::I32Low8)),
-    AtomicOpcode::Access(Access::AtomicRmw(RmwOp::Sub, Form::I32Low16)),
-    AtomicOpcode::Access(Access::AtomicRmw(RmwOp::Sub, Form::I64Low8)),
-    AtomicOpcode::Access(Access::AtomicRmw(RmwOp::Sub, Form::I64Low16)),
-    AtomicOpcode::Access(Access::AtomicRmw(RmwOp::Sub, Form::I64Low32)),
-    AtomicOpcode::Access(Access::AtomicRmw(RmwOp::And, Form::I32)),
-    AtomicOpcode::Access(Access::AtomicRmw(RmwOp::And, Form::I64)),
-    AtomicOpcode::Access(Access::AtomicRmw(RmwOp::And, Form::I32Low8)),
-    AtomicOpcode::Access(Access::AtomicRmw(RmwOp::And, Form::I32Low16)),
-    // 30
-    AtomicOpcode::Access(Access::AtomicRmw(RmwOp::And, Form::I64Low8)),
-    AtomicOpcode::Access(Access::AtomicRmw(RmwOp::And, Form::I64Low16)),
-    AtomicOpcode::Access(Access::AtomicRmw(RmwOp::And, Form::I64Low32)),
-    AtomicOpcode::Access(Access::AtomicRmw(RmwOp::Or, Form::I32)),
-    AtomicOpcode::Access(Access::AtomicRmw(RmwOp::Or, Form::I64)),
-    AtomicOpcode::Access(Access::AtomicRmw(RmwOp::Or, Form::I32Low8)),
-    AtomicOpcode::Access(Access::AtomicRmw(RmwOp::Or, Form::I32Low16)),
-    AtomicOpcode::Access(Access::AtomicRmw(RmwOp::Or, Form::I64Low8)),
-    AtomicOpcode::Access(Access::AtomicRmw(RmwOp::Or, Form::I64Low16)),
-    AtomicOpcode::Access(Access::AtomicRmw(RmwOp::Or, Form::I64Low32)),
-    AtomicOpcode::Access(Access::AtomicRmw(RmwOp::Xor, Form::I32)),
-    AtomicOpcode::Access(Access::AtomicRmw(RmwOp::Xor, Form::I64)),
-    AtomicOpcode::Access(Access::AtomicRmw(RmwOp::Xor, Form::I32Low8)),
-    AtomicOpcode::Access(Access::AtomicRmw(RmwOp::Xor, Form::I32Low16)),
-    AtomicOpcode::Access(Access::AtomicRmw(RmwOp::Xor, Form::I64Low8)),
-    AtomicOpcode::Access(Access::AtomicRmw(RmwOp::Xor, Form::I64Low16)),
-    // 40
-    AtomicOpcode::Access(Access::AtomicRmw(RmwOp::Xor, Form::I64Low32)),
-    AtomicOpcode::Access(Access::AtomicRmw(RmwOp::Exchange, Form::I32)),
-    AtomicOpcode::Access(Access::AtomicRmw(RmwOp::Exchange, Form::I64)),
-    AtomicOpcode::Access(Access::AtomicRmw(RmwOp::Exchange, Form::I32Low8)),
-    AtomicOpcode::Access(Access::AtomicRmw(RmwOp::Exchange, Form::I32Low16)),
-    AtomicOpcode::Access(Access::AtomicRmw(RmwOp::Exchange, Form::I64Low8)),
-    AtomicOpcode::Access(Access::AtomicRmw(RmwOp::Exchange, Form::I64Low16)),
-    AtomicOpcode::Access(Access::AtomicRmw(RmwOp::Exchange, Form::I64Low32)),
-    AtomicOpcode::Access(Access::AtomicCompareExchange(Form::I32)),
-    AtomicOpcode::Access(Access::AtomicCompareExchange(Form::I64)),
-    AtomicOpcode::Access(Access::AtomicCompareExchange(Form::I32Low8)),
-    AtomicOpcode::Access(Access::AtomicCompareExchange(Form::I32Low16)),
-    AtomicOpcode::Access(Access::AtomicCompareExchange(Form::I64Low8)),
-    AtomicOpcode::Access(Access::AtomicCompareExchange(Form::I64Low16)),
-    AtomicOpcode::Access(Access::AtomicCompareExchange(Form::I64Low32)),
-];
+    forms AtomicLoad;
+    forms AtomicStore;
+    forms AtomicRmw of Add;
+    forms AtomicRmw of Sub;
+    forms AtomicRmw of And;
+    forms AtomicRmw of Or;
+    forms AtomicRmw of Xor;
+    forms AtomicRmw of Exchange;
+    forms AtomicCompareExchange;
+};
 
 /// At each byte the tables hold what the encoding of instructions says.
 pub fn opcodes_are_encodings()

@@ -68,6 +68,7 @@ impl<'a> Walk<'a> {
 
     /// What comes next, if anything. `AllocError` is want of memory and nothing else; what comes next
     /// isn't said then.
+    #[inline(always)]
     pub fn next(&mut self) -> Result<Option<Event<'a>>, AllocError>
         ensures { IfOk result (λ e. Follows self.old e self.new) }
     {
@@ -81,17 +82,14 @@ impl<'a> Walk<'a> {
             self.rest = self.body.list(inner.first);
             return Ok(Some(Event::Begin(inner.construct, inner.of)));
         }
-        let Some(outer) = self.outer.pop() else {
+        let Some(outer) = self.outer.last_mut() else {
             return Ok(None);
         };
-        let Some(second) = outer.second else {
+        let Some(second) = outer.second.take() else {
             self.rest = outer.rest;
+            self.outer.pop();
             return Ok(Some(Event::End));
         };
-        self.outer.push(Outer {
-            rest: outer.rest,
-            second: None,
-        })?;
         self.rest = self.body.list(second);
         Ok(Some(Event::Else {
             is_empty: self.rest.is_empty(),

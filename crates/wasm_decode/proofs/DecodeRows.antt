@@ -8,7 +8,7 @@ use Rattle.wasm_decode.specs.declared.fault.Bound.TheVariants.{Length}
 use Rattle.wasm_decode.specs.declared.fault.DecodeFault.TheVariants.{Malformed, Float, Limit, Memory}
 use Rattle.wasm_decode.specs.Floats.{module_has_float}
 use Rattle.wasm_decode.specs.Bounds.{most_bytes, first_passed}
-use Rattle.wasm_decode.specs.Decodes.{AreWithin, SpellsModest, SpellsNone, SpellsFloat, Passes, Decodes, IsUnlessMemory}
+use Rattle.wasm_decode.specs.Decodes.{AreWithin, SpellsModest, SpellsNone, Decodes, IsUnlessMemory}
 use Rattle.wasm_decode.specs.Judged.{unless_passed, judged}
 
 abbrev Answer : Type 0

@@ -7,7 +7,7 @@ use Rattle.std.proofs.Math.Bool.{or_assoc, or-false}
 use Rattle.std.proofs.lemmas.List.{append-nil}
 use Rattle.std.proofs.lemmas.List.Folds.{list_any-append}
 use Rattle.wasm_ast.specs.Sequence.{Sequence, Empty, Plain, Block, If}
-use Rattle.wasm_ast.specs.Events.{Event, Instruction, Begin, Else, End, is_empty, events}
+use Rattle.wasm_ast.specs.Events.{Event, Instruction, Else, End, is_empty, events}
 use Rattle.wasm_decode.specs.Floats.{block_is_float, has_float}
 use Rattle.wasm_decode.specs.Nesting.{depth}
 use Rattle.wasm_decode.specs.Bounds.{is_deep}

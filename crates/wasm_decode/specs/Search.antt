@@ -1,6 +1,6 @@
 -- What a walk over a body looks for.
 use Rattle.std.specs.Prelude.{ℕ, ◌+◌, ◌-◌, min, nat_lt, Bool, false, ◌||◌, List, [], ◌∷◌}
-use Rattle.wasm_ast.specs.Events.{Event, Instruction, Begin, Else, End}
+use Rattle.wasm_ast.specs.Events.{Event, Instruction, Begin, End}
 use Rattle.wasm_decode.specs.Floats.{block_is_float, instruction_is_float}
 
 -- an instruction on floats, or a block's type that is one of floats

@@ -26,54 +26,41 @@ pub(crate) struct Found {
     pub(crate) deep: bool,
 }
 
-/// Whether an event is of floating-point numbers.
-fn event_is_float(event: Event<'_>) -> bool
-    ensures { result ≡ event_is_float (event_of event.entry) }
-{
-    match event {
-        Event::Instruction(instr) => matches!(instr, Instr::Float),
-        Event::Begin(_, of) => block_is_float(of),
-        Event::Else { .. } | Event::End => false,
-    }
-}
-
-/// Whether more constructs than there may be are open behind an event.
-fn passes(event: Event<'_>, level: u16) -> bool
-    ensures { result ≡ passes (event_of event.entry) level }
-{
-    match event {
-        Event::Begin(_, _) => level >= MOST_OPEN,
-        Event::Instruction(_) | Event::Else { .. } | Event::End => false,
-    }
-}
-
-/// How many constructs are open behind an event, as far as that many may be.
-fn level_behind(event: Event<'_>, level: u16) -> u16
+/// What is found with an event, and how many constructs are open behind it, as far as that many may be.
+#[inline(always)]
+fn with_event(event: Event<'_>, found: Found, level: u16) -> (Found, u16)
     requires { level ≤ 256 }
-    ensures { result ≡ level_behind (event_of event.entry) level }
+    ensures float { result.0.float ≡ (found.float || event_is_float (event_of event.entry)) }
+    ensures deep { result.0.deep ≡ (found.deep || passes (event_of event.entry) level) }
+    ensures level { result.1 ≡ level_behind (event_of event.entry) level }
 {
+    let Found { float, deep } = found;
     match event {
-        Event::Begin(_, _) => (level + 1).min(MOST_OPEN),
-        Event::End => level.saturating_sub(1),
-        Event::Instruction(_) | Event::Else { .. } => level,
+        Event::Instruction(instr) => {
+            let float = float || matches!(instr, Instr::Float);
+            (Found { float, deep }, level)
+        }
+        Event::Begin(_, of) => {
+            let float = float || block_is_float(of);
+            let deep = deep || level >= MOST_OPEN;
+            (Found { float, deep }, (level + 1).min(MOST_OPEN))
+        }
+        Event::Else { .. } => (found, level),
+        Event::End => (found, level.saturating_sub(1)),
     }
 }
 
 /// What was found before, and in a body.
-fn search_body(alloc: Global, body: &Body, found: Found) -> Result<Found, AllocError>
+fn search_body(alloc: Global, body: &Body, mut found: Found) -> Result<Found, AllocError>
     ensures float { IfOk result (λ f. f.float ≡ (found.float || has_float body.now)) }
     ensures deep { IfOk result (λ f. f.deep ≡ (found.deep || is_deep body.now)) }
 {
     let mut walk = Walk::new(alloc, body);
-    let mut float = found.float;
-    let mut deep = found.deep;
     let mut level = 0;
     'events: while let Some(event) = walk.next()? {
-        float = float || event_is_float(event);
-        deep = deep || passes(event, level);
-        level = level_behind(event, level);
+        (found, level) = with_event(event, found, level);
     }
-    Ok(Found { float, deep })
+    Ok(found)
 }
 
 /// What has instructions.

@@ -48,19 +48,13 @@ module _ {P Q : List ℕ → Type 0} (v w : List ℕ) (otherwise : Sequence) (f 
 
   -- an else is left out
   left_out : (bytes : List ℕ) → AreBytes bytes → Joined P (Behind 0x05 (Joined (λ c. SpellsSequence c otherwise) (Behind 0x0B Q))) bytes → NoLonger (Joined P (Behind 0x0B Q)) bytes (v ++ 0x0B ∷ w)
-  left_out bytes a j = part j.back refl j.second where
-    part : (back : List ℕ) → j.back ≡ back → Behind 0x05 (Joined (λ c. SpellsSequence c otherwise) (Behind 0x0B Q)) back → NoLonger (Joined P (Behind 0x0B Q)) bytes (v ++ 0x0B ∷ w)
-    part [] e s = absurd s
-    part (b ∷ back) e s =
+  left_out bytes a j = joined_shortest bytes v (0x0B ∷ w) a j (λ b. f j.front b j.first) (λ b. part j.back b j.second) where
+    part : (back : List ℕ) → AreBytes back → Behind 0x05 (Joined (λ c. SpellsSequence c otherwise) (Behind 0x0B Q)) back → NoLonger (Behind 0x0B Q) back (0x0B ∷ w)
+    part [] b s = absurd s
+    part (c ∷ back) b s =
         let k = s.1 in
-        let c = bytes_split j.front j.back (subst AreBytes j.parts a) in
-        let d = bytes_split k.front k.back (subst AreBytes k.parts (subst AreBytes e c.1).1) in
-        let p : NoLonger P j.front v = f j.front c.0 j.first in
-        let q : NoLonger (Behind 0x0B Q) k.back (0x0B ∷ w) = behind_shortest 0x0B k.back w d.1 k.second g in
-        record {
-          spells = record { front = v; back = 0x0B ∷ w; parts = refl; first = p.spells; second = q.spells };
-          shorter = omega (arith, p.shorter, q.shorter, ap length j.parts, ap length k.parts, ap length e, length-append j.front j.back, length-append k.front k.back, length-append v (0x0B ∷ w));
-        }
+        let q : NoLonger (Behind 0x0B Q) k.back (0x0B ∷ w) = behind_shortest 0x0B k.back w (bytes_split k.front k.back (subst AreBytes k.parts b.1)).1 k.second g in
+        record { spells = q.spells; shorter = omega (arith, q.shorter, ap length k.parts, length-append k.front k.back) }
 
   arms_shortest : (bytes : List ℕ) → AreBytes bytes → Arms P otherwise Q bytes → NoLonger (Arms P otherwise Q) bytes (v ++ canon_else otherwise (canon_sequence otherwise) ++ 0x0B ∷ w)
   arms_shortest bytes a s =
@@ -70,7 +64,7 @@ module _ {P Q : List ℕ → Type 0} (v w : List ℕ) (otherwise : Sequence) (f 
         | inr j ↦ elim (else_written otherwise u) [
           | inl e ↦ short_arms bytes (canon_else otherwise u) e.0 e.1 (left_out bytes a j)
           | inr e ↦
-              let p = joined_shortest bytes v (0x05 ∷ (u ++ 0x0B ∷ w)) a j (λ b. f j.front b j.first)
+              let p : NoLonger (Joined P (Behind 0x05 (Joined (λ c. SpellsSequence c otherwise) (Behind 0x0B Q)))) bytes (v ++ 0x05 ∷ (u ++ 0x0B ∷ w)) = joined_shortest bytes v (0x05 ∷ (u ++ 0x0B ∷ w)) a j (λ b. f j.front b j.first)
               (λ b. behind_shortest 0x05 j.back (u ++ 0x0B ∷ w) b j.second (λ more c k. inner_shortest more u w c k h g)) in
               let same : v ++ (0x05 ∷ (u ++ 0x0B ∷ w)) ≡ v ++ canon_else otherwise u ++ 0x0B ∷ w = sym (ap (λ z. v ++ z ++ 0x0B ∷ w) e ∙ append_assoc v (0x05 ∷ u) (0x0B ∷ w)) in
               subst (λ z. NoLonger (Arms P otherwise Q) bytes z) same (record { spells = inr p.spells; shorter = p.shorter })

@@ -1,7 +1,8 @@
 -- Instructions that have no inner instructions are written so that they are spelled, in the fewest bytes.
-use Rattle.std.proofs.Common.{◌≡◌, inl, inr, ℕ, List, [], ◌∷◌, length, refl, sym, ap, subst, arith}
+use Rattle.std.proofs.Common.{◌≡◌, inl, inr, ℕ, List, [], ◌∷◌, ◌++◌, length, refl, sym, ap, subst, arith}
 use Rattle.wasm_ast.specs.declared.instr.Instr.TheVariants as instr
 use Rattle.wasm_ast.specs.declared.instr.MemArg.{MemArg}
+use Rattle.wasm_ast.specs.Spelling.{Joined}
 use Rattle.wasm_ast.specs.Immediates.{Immediates, Nothing, Index, Labels, IndexAndZero, Argument, Zero, Signed32, Signed64, Raw, Never, Spells, shortest}
 use Rattle.wasm_ast.specs.Opcodes.{encoding}
 use Rattle.wasm_ast.specs.SpelledInstr.{SpellsFloat, SpellsPlain}
@@ -31,5 +32,6 @@ plain_shortest bytes i a (inr h) = subst (λ z. NoLonger (λ a. SpellsPlain a z)
 plain_shortest bytes instr.Float a (inl j) = absurd j.second
 plain_shortest bytes i a (inl j) =
     let e = encoding i in
-    let p = joined_shortest bytes e.opcode (shortest e.immediates e.value) a j (λ b. fixed j.front e.opcode j.first) (λ b. value_shortest e.immediates j.back e.value b j.second) in
+    let p : NoLonger (Joined (λ a. a ≡ e.opcode) (λ b. Spells e.immediates b e.value)) bytes (e.opcode ++ shortest e.immediates e.value) =
+    joined_shortest bytes e.opcode (shortest e.immediates e.value) a j (λ b. fixed j.front e.opcode j.first) (λ b. value_shortest e.immediates j.back e.value b j.second) in
     record { spells = inl p.spells; shorter = p.shorter }

@@ -1,5 +1,5 @@
 -- The shortest numbers are spelled, and no spelling is shorter.
-use Rattle.std.proofs.Common.{◌≡◌, ◌⊎◌, inl, inr, ℕ, zero, suc, ℤ, pos, negsuc, ◌+◌, ◌-◌, ◌*◌, ◌/◌, ◌%◌, ◌^◌, ◌<◌, ◌≤◌, ◌+ℤ◌, ◌-ℤ◌, ◌*ℤ◌, nat_lt, Bool, true, false, ◌&&◌, List, [], ◌∷◌, ◌++◌, length, Option, Some, refl, sym, ◌∙◌, ap, subst, arith}
+use Rattle.std.proofs.Common.{◌≡◌, inl, inr, ℕ, zero, suc, ℤ, pos, negsuc, ◌+◌, ◌-◌, ◌*◌, ◌/◌, ◌%◌, ◌^◌, ◌<◌, ◌≤◌, ◌+ℤ◌, ◌-ℤ◌, ◌*ℤ◌, nat_lt, Bool, true, ◌&&◌, List, [], ◌∷◌, ◌++◌, length, Option, Some, refl, sym, ◌∙◌, ap, subst, arith}
 use Rattle.std.specs.List.{AllByRecursion}
 use Rattle.std.proofs.lemmas.Bool.{lt-ltb, ltb-true, cases_lt, cases_Bool, le-leb}
 use Rattle.byte_cursor.specs.Integers.{Spells, SpellsUnsigned, SpellsSigned, unsigned_last, unsigned_joined, signed_last, signed_joined}
@@ -145,12 +145,15 @@ unfolding shortest_unsigned
 u32_spelled n l = unsigned_spelled 9 32 n (omega arith) l
 
 -- a number that is no larger than one that is spelled
+pub u32_order : (bytes : List ℕ) (n m : ℕ) → AreBytes bytes → SpellsU32 bytes n → m ≤ n → length (shortest_unsigned m) ≤ length (shortest_unsigned n)
+unfolding shortest_unsigned
+u32_order bytes n m a s l = omega (arith, unsigned_order 9 n m l, ap length (unsigned_deep 9 n (omega (arith, unsigned_below 32 bytes n a s))))
+
 pub u32_shortest : (bytes : List ℕ) (n m : ℕ) → AreBytes bytes → SpellsU32 bytes n → m ≤ n → NoLonger (λ a. SpellsU32 a m) bytes (shortest_unsigned m)
 unfolding shortest_unsigned
 u32_shortest bytes n m a s l =
-    let few = unsigned_below 32 bytes n a s in
     let p = unsigned_shortest 9 32 bytes n (omega arith) a s in
-    record { spells = unsigned_spelled 9 32 m (omega arith) (omega arith); shorter = omega (arith, p.shorter, unsigned_order 9 n m l, ap length (unsigned_deep 9 n (omega arith))) }
+    record { spells = u32_spelled m (omega (arith, unsigned_below 32 bytes n a s)); shorter = omega (arith, p.shorter, u32_order bytes n m a s l) }
 
 pub u32_sum : (a b : ℕ) → length (shortest_unsigned (a + b)) ≤ length (shortest_unsigned a) + length (shortest_unsigned b)
 unfolding shortest_unsigned

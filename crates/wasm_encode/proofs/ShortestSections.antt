@@ -1,13 +1,13 @@
 -- Sections, each at its number, are written so that they are spelled, in the fewest bytes.
-use Rattle.std.proofs.Common.{◌≡◌, inl, inr, ℕ, zero, suc, ◌+◌, ◌<◌, ◌≤◌, ◌==◌, cond, List, [], ◌∷◌, ◌++◌, length, Option, Some, None, MatchOption, refl, sym, ◌∙◌, ap, subst, arith, length-append, eq-eqb, ne_eqb}
-use Rattle.std.proofs.lemmas.Bool.{cases_lt}
+use Rattle.std.proofs.Common.{◌≡◌, inl, inr, ℕ, zero, suc, ◌+◌, ◌<◌, ◌≤◌, ◌==◌, cond, List, [], ◌∷◌, ◌++◌, length, Option, Some, None, MatchOption, refl, ◌∙◌, ap, subst, arith, length-append, eq-eqb, ne_eqb}
+use Rattle.std.proofs.lemmas.Bool.{cases_eq}
 use Rattle.byte_cursor.proofs.Laws.{chosen}
-use Rattle.wasm_ast.specs.Canon.{canon_section}
+use Rattle.wasm_ast.specs.Canon.{canon_bytes, canon_section}
 use Rattle.wasm_ast.specs.Spelling.{SpellsEach, SpellsBytes}
 use Rattle.wasm_ast.specs.SpelledModule.{Section, SpellsSection, InOrder, content_of}
-use Rattle.wasm_reading.proofs.ValueLaws.{some_is}
+use Rattle.std.proofs.lemmas.Option.{same_Some}
 use Rattle.wasm_encode.proofs.ShortestNumbers.{AreBytes, bytes_split, NoLonger}
-use Rattle.wasm_encode.proofs.ShortestVectors.{content_shortest, content_bytes}
+use Rattle.wasm_encode.proofs.ShortestVectors.{content_shortest}
 
 -- the sections of the contents at the numbers from one on, none where there is none
 abbrev pub sections_from : ℕ → List (Option (List ℕ)) → List Section
@@ -68,94 +68,81 @@ order_from (Some content ∷ slots) next p l =
 
 -- ---- against sections that are spelled
 
--- no section of a number comes in front of the next
-none_early : (ss : List Section) (next id : ℕ) → 0 < id → id < next → InOrder next ss → content_of id ss ≡ None
-none_early [] next id p l o = refl
-none_early (s ∷ ss) next id p l o =
-    elim o [
-      | inl w ↦ past s ss id (λ e. omega (arith, w.0)) ∙ none_early ss next id p l w.2
-      | inr w ↦ past s ss id (λ e. omega (arith, w.1)) ∙ none_early ss (s.id + 1) id p (omega (arith, w.1)) w.3
-    ]
-
 -- the number in front of the size and the content
 section_front : (s : Section) (front : List ℕ) → SpellsSection front s → (more : List ℕ) × (front ≡ s.id ∷ more) × SpellsBytes more s.content
 section_front s [] h = absurd h
 section_front s (b ∷ more) h = (more, ap (λ c. c ∷ more) h.0, h.1)
 
--- what is written at a number is no longer than what is spelled there
+-- how many bytes the sections at so many numbers from one on have, where they are written
+abbrev size : ℕ → ℕ → List Section → ℕ
+size zero next ss = 0
+size (suc k) next ss = length (written_slot next (content_of next ss)) + size k (suc next) ss
+
+size_none : (k next : ℕ) → size k next [] ≡ 0
+size_none zero next = refl
+size_none (suc k) next = omega (arith, size_none k (suc next))
+
+size_past : (k next : ℕ) (s : Section) (ss : List Section) → s.id < next → size k next (s ∷ ss) ≡ size k next ss
+size_past zero next s ss l = refl
+size_past (suc k) next s ss l =
+    omega (arith, ap (λ o. length (written_slot next o)) (past s ss next (λ e. omega (arith, e, l))), size_past k (suc next) s ss (omega arith))
+
+-- a section in front is at one number at most
+size_more : (k next : ℕ) (s : Section) (ss : List Section) → size k next (s ∷ ss) ≤ length (canon_section s.id s.content) + size k next ss
+size_more zero next s ss = omega arith
+size_more (suc k) next s ss =
+    elim (cases_eq s.id next) [
+      | inl e ↦ omega (arith, ap (λ o. length (written_slot next o)) (here s ss next e), size_past k (suc next) s ss (omega (arith, e)))
+      | inr n ↦ omega (arith, ap (λ o. length (written_slot next o)) (past s ss next n), size_more k (suc next) s ss)
+    ]
+
+size_fits : (ss : List Section) (body : List ℕ) (k next : ℕ) → AreBytes body → SpellsEach SpellsSection body ss → size k next ss ≤ length body
+size_fits [] body k next a j = omega (arith, size_none k next)
+size_fits (s ∷ ss) body k next a j =
+    let b = bytes_split j.front j.back (subst AreBytes j.parts a) in
+    let f = section_front s j.front j.first in
+    let q = content_shortest f.0 s.content s.content (subst AreBytes f.1 b.0).1 f.2 (omega arith) in
+    omega (arith, size_more k next s ss, size_fits ss j.back k next b.1 j.second, q.shorter, ap length f.1, ap length j.parts, length-append j.front j.back)
+
+-- what is written at a number is spelled, and no longer than the content there where that is written
 abbrev pub Fits : Option (List ℕ) → Option (List ℕ) → Type 0
 Fits None o = Unit {0}
-Fits (Some v) o = MatchOption o ⊥ (λ content. length v ≤ length content)
+Fits (Some v) o = MatchOption o ⊥ (λ content. SpellsBytes (canon_bytes v) v × (length (canon_bytes v) ≤ length (canon_bytes content)))
 
 -- and that at each number from one on
 abbrev pub Covered : ℕ → List Section → List (Option (List ℕ)) → Type 0
 Covered next ss [] = Unit {0}
 Covered next ss (slot ∷ slots) = Fits slot (content_of next ss) × Covered (suc next) ss slots
 
-covered_same : (slots : List (Option (List ℕ))) (next : ℕ) (later ss : List Section) → ((id : ℕ) → next ≤ id → content_of id later ≡ content_of id ss) → Covered next ss slots → Covered next later slots
-covered_same [] next later ss e c = tt
-covered_same (slot ∷ slots) next later ss e c = (subst (λ o. Fits slot o) (sym (e next (omega arith))) c.0, covered_same slots (suc next) later ss (λ id l. e id (omega (arith, l))) c.1)
+slot_fits : (v : List ℕ) (next : ℕ) (o : Option (List ℕ)) → Fits (Some v) o → SpellsBytes (canon_bytes v) v × (length (canon_section next v) ≤ length (written_slot next o))
+slot_fits v next None h = absurd h
+slot_fits v next (Some content) h = (h.0, omega (arith, h.1))
 
--- what is written at the numbers from one on, against what is spelled
-abbrev Shortest : ℕ → List (Option (List ℕ)) → List ℕ → Type 0
-Shortest next slots body = NoLonger (λ a. SpellsEach SpellsSection a (sections_from next slots)) body (written_from next slots)
+slots_fit : (slots : List (Option (List ℕ))) (next : ℕ) (ss : List Section) → Covered next ss slots →
+    SpellsEach SpellsSection (written_from next slots) (sections_from next slots) × (length (written_from next slots) ≤ size (length slots) next ss)
+slots_fit [] next ss c = (refl, omega arith)
+slots_fit (None ∷ slots) next ss c = let r = slots_fit slots (suc next) ss c.1 in (r.0, omega (arith, r.1))
+slots_fit (Some v ∷ slots) next ss c =
+    let r = slots_fit slots (suc next) ss c.1 in
+    let f = slot_fits v next (content_of next ss) c.0 in (
+      record { front = canon_section next v; back = written_from (suc next) slots; parts = refl; first = (refl, f.0); second = r.0 },
+      omega (arith, f.1, r.1, length-append (canon_section next v) (written_from (suc next) slots)),
+    )
 
--- with some bytes in front
-behind_more : (next : ℕ) (slots : List (Option (List ℕ))) (front back : List ℕ) → Shortest next slots back → Shortest next slots (front ++ back)
-behind_more next slots front back r = record { spells = r.spells; shorter = omega (arith, r.shorter, length-append front back) }
+pub slots_shortest : (ss : List Section) (slots : List (Option (List ℕ))) (next : ℕ) (body : List ℕ) → AreBytes body → SpellsEach SpellsSection body ss → Covered next ss slots →
+    NoLonger (λ a. SpellsEach SpellsSection a (sections_from next slots)) body (written_from next slots)
+slots_shortest ss slots next body a j c =
+    let r = slots_fit slots next ss c in
+    record { spells = r.0; shorter = omega (arith, r.1, size_fits ss body (length slots) next a j) }
 
-none_written : (slots : List (Option (List ℕ))) (next : ℕ) (body : List ℕ) → Covered next [] slots → Shortest next slots body
-none_written [] next body c = record { spells = refl; shorter = omega arith }
-none_written (None ∷ slots) next body c = none_written slots (suc next) body c.1
-none_written (Some v ∷ slots) next body c = absurd c.0
-
--- a section that isn't custom, in front of others
-module _ (s : Section) (ss : List Section) (front back : List ℕ) (a : AreBytes front) (h : SpellsSection front s) (o : InOrder (s.id + 1) ss)
-    (later : (slots : List (Option (List ℕ))) (next : ℕ) → 0 < next → InOrder next ss → Covered next ss slots → Shortest next slots back) where
-  behind_it : (slots : List (Option (List ℕ))) (next : ℕ) → s.id ≡ next → Covered (suc next) (s ∷ ss) slots → Shortest (suc next) slots back
-  behind_it slots next e c =
-      later slots (suc next) (omega arith) (subst (λ n. InOrder n ss) (omega (arith, e)) o) (covered_same slots (suc next) ss (s ∷ ss) (λ id l. sym (past s ss id (λ f. omega (arith, e, f, l)))) c)
-
-  from_number : (slots : List (Option (List ℕ))) (next : ℕ) → 0 < next → next ≤ s.id → Covered next (s ∷ ss) slots → Shortest next slots (front ++ back)
-  from_number [] next p l c = record { spells = refl; shorter = omega arith }
-  from_number (None ∷ slots) next p l c =
-      elim (cases_lt next s.id) [
-        | inl less ↦ from_number slots (suc next) (omega arith) (omega (arith, less)) c.1
-        | inr same ↦ behind_more (suc next) slots front back (behind_it slots next (omega (arith, l, same)) c.1)
-      ]
-  from_number (Some v ∷ slots) next p l c =
-      elim (cases_lt next s.id) [
-        | inl less ↦ absurd (subst (λ o. Fits (Some v) o) (past s ss next (λ e. omega (arith, e, less)) ∙ none_early ss (s.id + 1) next p (omega (arith, less)) o) c.0)
-        | inr same ↦
-            let e : s.id ≡ next = omega (arith, l, same) in
-            let f = section_front s front h in
-            let q = content_shortest f.0 s.content v (subst AreBytes f.1 a).1 f.2 (subst (λ o. Fits (Some v) o) (here s ss next e) c.0) in
-            let r = behind_it slots next e c.1 in
-            record {
-              spells = record { front = canon_section next v; back = written_from (suc next) slots; parts = refl; first = (refl, q.spells); second = r.spells };
-              shorter = omega (arith, r.shorter, q.shorter, ap length f.1, length-append front back, length-append (canon_section next v) (written_from (suc next) slots));
-            }
-      ]
-
-pub slots_shortest : (ss : List Section) (slots : List (Option (List ℕ))) (next : ℕ) (body : List ℕ) → 0 < next → AreBytes body → SpellsEach SpellsSection body ss → InOrder next ss → Covered next ss slots → Shortest next slots body
-slots_shortest [] slots next body p a j o c = none_written slots next body c
-slots_shortest (s ∷ ss) slots next body p a j o c =
-    let b = bytes_split j.front j.back (subst AreBytes j.parts a) in
-    subst (λ x. Shortest next slots x) (sym j.parts)
-    (elim o [
-      | inl w ↦
-          let others = covered_same slots next ss (s ∷ ss) (λ id l. sym (past s ss id (λ e. omega (arith, w.0, e, l, p)))) c in
-          behind_more next slots j.front j.back (slots_shortest ss slots next j.back p b.1 j.second w.2 others)
-      | inr w ↦ from_number s ss j.front j.back b.0 j.first w.3 (λ slots next p o c. slots_shortest ss slots next j.back p b.1 j.second o c) slots next p w.1 c
-    ])
-
--- the content of a section are bytes
-pub contents_bytes : (ss : List Section) (body : List ℕ) (id : ℕ) (content : List ℕ) → AreBytes body → SpellsEach SpellsSection body ss → content_of id ss ≡ Some content → AreBytes content
-contents_bytes [] body id content a j e = absurd cc
-contents_bytes (s ∷ ss) body id content a j e =
+-- the content of a section, in bytes with its size
+pub content_spelled : (ss : List Section) (body : List ℕ) (id : ℕ) (content : List ℕ) → AreBytes body → SpellsEach SpellsSection body ss → content_of id ss ≡ Some content →
+    (front : List ℕ) × AreBytes front × SpellsBytes front content
+content_spelled [] body id content a j e = absurd cc
+content_spelled (s ∷ ss) body id content a j e =
     let b = bytes_split j.front j.back (subst AreBytes j.parts a) in
     let f = section_front s j.front j.first in
     elim (chosen (s.id == id) (Some s.content) (content_of id ss) (Some content) e) [
-      | inl w ↦ subst AreBytes (some_is s.content content w.1) (content_bytes f.0 s.content (subst AreBytes f.1 b.0).1 f.2)
-      | inr w ↦ contents_bytes ss j.back id content b.1 j.second w.1
+      | inl w ↦ (f.0, (subst AreBytes f.1 b.0).1, subst (λ c. SpellsBytes f.0 c) (same_Some s.content content w.1) f.2)
+      | inr w ↦ content_spelled ss j.back id content b.1 j.second w.1
     ]

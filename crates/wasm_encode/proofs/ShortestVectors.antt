@@ -17,11 +17,11 @@ u32_is bytes n a s = u32_shortest bytes n n a s (omega arith)
 pub fixed : (bytes w : List ℕ) → bytes ≡ w → NoLonger (λ a. a ≡ w) bytes w
 fixed bytes w e = record { spells = refl; shorter = omega (arith, ap length e) }
 
-pub joined_shortest : {P Q : List ℕ → Type 0} (bytes v w : List ℕ) → AreBytes bytes → (j : Joined P Q bytes) → (AreBytes j.front → NoLonger P j.front v) → (AreBytes j.back → NoLonger Q j.back w) → NoLonger (Joined P Q) bytes (v ++ w)
-joined_shortest {P} {Q} bytes v w a j f g =
+pub joined_shortest : {P Q R T : List ℕ → Type 0} (bytes v w : List ℕ) → AreBytes bytes → (j : Joined P Q bytes) → (AreBytes j.front → NoLonger R j.front v) → (AreBytes j.back → NoLonger T j.back w) → NoLonger (Joined R T) bytes (v ++ w)
+joined_shortest {R = R} {T = T} bytes v w a j f g =
     let b = bytes_split j.front j.back (subst AreBytes j.parts a) in
-    let p : NoLonger P j.front v = f b.0 in
-    let q : NoLonger Q j.back w = g b.1 in
+    let p : NoLonger R j.front v = f b.0 in
+    let q : NoLonger T j.back w = g b.1 in
     record {
       spells = record { front = v; back = w; parts = refl; first = p.spells; second = q.spells };
       shorter = omega (arith, p.shorter, q.shorter, ap length j.parts, length-append j.front j.back, length-append v w);

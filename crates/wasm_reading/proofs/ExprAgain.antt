@@ -13,9 +13,11 @@ use Rattle.wasm_ast.specs.Opcodes.{block_byte, construct_byte}
 use Rattle.wasm_ast.specs.SpelledInstr.{SpellsPlain, SpellsSequence, SpellsExpr}
 use Rattle.wasm_ast.specs.OpcodeTables.{opcode_at, SpellsBehind}
 use Rattle.wasm_ast.proofs.OpcodeLaws.{spelled_is_behind, plain_begins}
+use Rattle.wasm_reading.specs.declared.exprs.{Shape.Shape, Step.Step}
+use Rattle.wasm_reading.specs.declared.exprs.Shape.TheVariants as shape
 use Rattle.wasm_reading.specs.declared.exprs.Step.TheVariants.{Continue, Complete}
 use Rattle.wasm_reading.specs.ReadValues.{and_then, IsExact}
-use Rattle.wasm_reading.specs.ReadExpr.{shape_of, behind_shape, rest_at, expr_at}
+use Rattle.wasm_reading.specs.ReadExpr.{shape_of, behind_shape, goes_on, rest_at, expr_at}
 use Rattle.wasm_reading.proofs.TypeLaws.{blocktype_exact}
 use Rattle.wasm_reading.proofs.InstrLaws.{immediates_exact}
 use Rattle.wasm_reading.proofs.Sequences.{append-empty, append-append}
@@ -23,24 +25,9 @@ use Rattle.wasm_reading.proofs.Steps.{step_to}
 use Rattle.wasm_reading.proofs.Shapes.{shape_end, shape_else, shape_begin}
 use Rattle.wasm_reading.proofs.ExprTakes.{expr_takes}
 
--- an opening byte and a block type
-begin_read : (c : Construct) (v : Built) (b : ℕ) (q more : List ℕ) (of : Option ValType) → b ≡ construct_byte c → SpellsBlockType q of → rest_at v (b ∷ (q ++ more)) ≡ rest_at (with_open c of v) more
-begin_read c v b q more of o s =
-    step_to v (b ∷ (q ++ more)) (Continue (with_open c of v)) more
-    (ap (λ x. behind_shape x (opcode_at b) v (q ++ more)) (shape_begin b c o) ∙ ap (λ x. and_then x (λ of rest. Some (Continue (with_open c of v), rest))) (blocktype_exact.again q more of s))
-
--- the end of a construct
-end_read : (o : Open) (os : List Open) (s : Sequence) (e : ℕ) (more : List ℕ) → e ≡ 0x0B → rest_at (record { opens = o ∷ os; before = s }) (e ∷ more) ≡ rest_at (record { opens = os; before = closed o s }) more
-end_read o os s e more h =
-    let v : Built = record { opens = o ∷ os; before = s } in
-    step_to v (e ∷ more) (Continue (record { opens = os; before = closed o s })) more (ap (λ x. behind_shape x (opcode_at e) v more) (shape_end e h))
-
--- the end of the first arm of an if
-else_read : (of : Option ValType) (under : Sequence) (os : List Open) (s : Sequence) (e : ℕ) (more : List ℕ) → e ≡ 0x05 →
-    rest_at (record { opens = Inside construct.If of under ∷ os; before = s }) (e ∷ more) ≡ rest_at (record { opens = Else of s under ∷ os; before = Empty }) more
-else_read of under os s e more h =
-    let v : Built = record { opens = Inside construct.If of under ∷ os; before = s } in
-    step_to v (e ∷ more) (Continue (record { opens = Else of s under ∷ os; before = Empty })) more (ap (λ x. behind_shape x (opcode_at e) v more) (shape_else e h))
+-- a byte whose shape is known, and what is read behind it
+step_read : (v : Built) (b : ℕ) (bytes more : List ℕ) (of : Shape) (p : Step) → shape_of (opcode_at b) ≡ of → behind_shape of (opcode_at b) v bytes ≡ Some (p, more) → rest_at v (b ∷ bytes) ≡ goes_on rest_at p more
+step_read v b bytes more of p e h = step_to v (b ∷ bytes) p more (ap (λ x. behind_shape x (opcode_at b) v bytes) e ∙ h)
 
 -- an instruction without inner instructions
 behind_plain : (o : Opcode) (v : Built) (imm more : List ℕ) (i : Instr) → SpellsBehind o imm i → behind_shape (shape_of o) o v (imm ++ more) ≡ Some (Continue (with_plain i v), more)
@@ -72,7 +59,7 @@ close_read o os before part t r read_t read_r is a more j = parts_read _ a j.fro
   ends : (back : List ℕ) → Behind 0x0B (λ c. SpellsSequence c r) back → rest_at (record { opens = o ∷ os; before = t }) (back ++ more) ≡ rest_at (record { opens = os; before = append before (append part r) }) more
   ends [] h = absurd h
   ends (e ∷ back) h =
-      end_read o os t e (back ++ more) h.0 ∙ ap (λ s. rest_at (record { opens = os; before = s }) (back ++ more)) is
+      step_read (record { opens = o ∷ os; before = t }) e (back ++ more) (back ++ more) shape.End (Continue (record { opens = os; before = closed o t })) (shape_end e h.0) refl ∙ ap (λ s. rest_at (record { opens = os; before = s }) (back ++ more)) is
       ∙ read_r (record { opens = os; before = append before part }) back more h.1 ∙ ap (λ s. rest_at (record { opens = os; before = s }) more) (append-append before part r)
 
 -- what opens a construct, and its inside
@@ -81,7 +68,8 @@ open_read : (c : Construct) (d : ℕ) (v w : Built) (of : Option ValType) (P : L
 open_read c d v w of P is [] more h inside = absurd h
 open_read c d v w of P is (b ∷ a) more h inside =
     let j = h.1 in
-    parts_read v (b ∷ a) (b ∷ j.front) j.back more (ap (λ x. b ∷ x) j.parts) ∙ begin_read c v b j.front (j.back ++ more) of (h.0 ∙ is) j.first ∙ inside j.back j.second
+    parts_read v (b ∷ a) (b ∷ j.front) j.back more (ap (λ x. b ∷ x) j.parts) ∙ step_read v b (j.front ++ (j.back ++ more)) (j.back ++ more) (shape.Begin c) (Continue (with_open c of v)) (shape_begin b c (h.0 ∙ is))
+    (ap (λ x. and_then x (λ of rest. Some (Continue (with_open c of v), rest))) (blocktype_exact.again j.front (j.back ++ more) of j.first)) ∙ inside j.back j.second
 
 -- the arms of an if, behind its type
 module _ (v : Built) (of : Option ValType) (one two r : Sequence) (read_one : IsRead one) (read_two : IsRead two) (read_r : IsRead r) (more : List ℕ) where
@@ -89,7 +77,8 @@ module _ (v : Built) (of : Option ValType) (one two r : Sequence) (read_one : Is
       rest_at (record { opens = Inside construct.If of v.before ∷ v.opens; before = one }) (back ++ more) ≡ rest_at (behind v (If of one two r)) more
   second_read [] h = absurd h
   second_read (e ∷ back) h =
-      else_read of v.before v.opens one e (back ++ more) h.0 ∙ close_read (Else of one v.before) v.opens v.before (If of one two Empty) two r read_two read_r refl back more h.1
+      step_read (record { opens = Inside construct.If of v.before ∷ v.opens; before = one }) e (back ++ more) (back ++ more) shape.Else (Continue (record { opens = Else of one v.before ∷ v.opens; before = Empty })) (shape_else e h.0) refl
+      ∙ close_read (Else of one v.before) v.opens v.before (If of one two Empty) two r read_two read_r refl back more h.1
 
   arms_read : (x : List ℕ) → (Joined (λ b. SpellsSequence b one) (Behind 0x0B (λ c. SpellsSequence c r)) x × (two ≡ Empty))
       ⊎ Joined (λ b. SpellsSequence b one) (Behind 0x05 (Joined (λ c. SpellsSequence c two) (Behind 0x0B (λ d. SpellsSequence d r)))) x → rest_at (with_open construct.If of v) (x ++ more) ≡ rest_at (behind v (If of one two r)) more
@@ -113,8 +102,7 @@ sequence_read (If of one two r) v a more s =
 last_read : (s : Sequence) (back rest : List ℕ) → Behind 0x0B (λ c. c ≡ []) back → rest_at (record { opens = []; before = s }) (back ++ rest) ≡ Some (s, rest)
 last_read s [] rest h = absurd h
 last_read s (e ∷ back) rest h =
-    let v : Built = record { opens = []; before = s } in
-    step_to v (e ∷ (back ++ rest)) (Complete s) (back ++ rest) (ap (λ x. behind_shape x (opcode_at e) v (back ++ rest)) (shape_end e h.0)) ∙ ap (λ b. Some (s, b ++ rest)) h.1
+    step_read (record { opens = []; before = s }) e (back ++ rest) (back ++ rest) shape.End (Complete s) (shape_end e h.0) refl ∙ ap (λ b. Some (s, b ++ rest)) h.1
 
 pub expr_again : (front rest : List ℕ) (s : Sequence) → SpellsExpr front s → expr_at (front ++ rest) ≡ Some (s, rest)
 expr_again front rest s h =

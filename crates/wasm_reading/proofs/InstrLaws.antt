@@ -1,5 +1,6 @@
 -- Reading instructions takes just what is spelled so.
 use Rattle.std.proofs.Common.{◌≡◌, ℕ, List, [], ◌∷◌, ◌++◌, Some, refl, sym, ◌∙◌, ap}
+use Rattle.std.proofs.lemmas.Option.{same_Some}
 use Rattle.byte_cursor.specs.Integers.{BeginsWith}
 use Rattle.wasm_ast.specs.declared.instr.Instr.{Instr}
 use Rattle.wasm_ast.specs.declared.opcode.{Opcode.Opcode, AtomicOpcode.AtomicOpcode}
@@ -10,11 +11,11 @@ use Rattle.wasm_ast.specs.Immediates.{Immediates, Nothing, Index, Labels, IndexA
 use Rattle.wasm_ast.specs.OpcodeTables.{atomic_at, Plan, plan_of, atomic_plan_of, SpellsPlan, SpellsAtomic, SpellsBehind}
 use Rattle.wasm_reading.specs.ReadValues.{IsExact}
 use Rattle.wasm_reading.specs.ReadInstr.{nothing_at, zero_at, value_at, plan_at, atomic_immediates_at, atomic_instr_at, immediates_at}
-use Rattle.wasm_reading.proofs.ValueLaws.{some_is, mapped_exact, pair_exact, behind_exact, u32_exact, i32_exact, i64_exact, vec_exact, floats_exact, exact_as}
+use Rattle.wasm_reading.proofs.ValueLaws.{mapped_exact, pair_exact, behind_exact, u32_exact, i32_exact, i64_exact, vec_exact, floats_exact, exact_as}
 
 nothing_exact : {X : Type 0} (x : X) → IsExact (λ bytes y. (bytes ≡ []) × (y ≡ x)) (nothing_at x)
 nothing_exact {X} x = record {
-  takes = λ bytes y rest h. ([], (refl, ap (λ z. z.0) (sym (some_is _ _ h))), ap (λ z. z.1) (some_is _ _ h));
+  takes = λ bytes y rest h. ([], (refl, ap (λ z. z.0) (sym (same_Some _ _ h))), ap (λ z. z.1) (same_Some _ _ h));
   again = λ front rest y h. ap (λ b. Some (x, b ++ rest)) h.0 ∙ ap (λ z. Some (z, rest)) (sym h.1);
 }
 

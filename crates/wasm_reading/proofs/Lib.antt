@@ -9,5 +9,4 @@ pub mod ExprAgain
 pub mod EntryLaws
 pub mod ModuleLaws
 pub mod ItemLemmas
-pub mod GroupLemmas
 pub mod SectionLemmas

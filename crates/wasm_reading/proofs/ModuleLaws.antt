@@ -1,5 +1,6 @@
 -- Reading a module takes just what is spelled so.
 use Rattle.std.proofs.Common.{◌≡◌, ◌⊎◌, inl, inr, ℕ, zero, suc, ◌+◌, ◌<◌, ◌≤◌, ◌==◌, true, cond, List, [], ◌∷◌, ◌++◌, length, Option, Some, None, MatchOption, is_some, refl, sym, ◌∙◌, ap, subst, arith, eqb-true, eq-eqb, ne_eqb, le-ltb, length-append}
+use Rattle.std.proofs.lemmas.Option.{same_Some}
 use Rattle.std.specs.Option.{option_map, option_and_then}
 use Rattle.byte_cursor.specs.Integers.{BeginsWith}
 use Rattle.wasm_ast.specs.declared.module.Module.{Module}
@@ -8,17 +9,13 @@ use Rattle.wasm_ast.specs.SpelledTypes.{SpellsFuncType, SpellsTable, SpellsMemor
 use Rattle.wasm_ast.specs.SpelledModule.{SpellsImport, SpellsGlobal, SpellsExport, SpellsElement, SpellsCode, SpellsSegment, Section, SpellsSection, IsCustom, InOrder, content_of, Holds, HoldsStart, preamble, SpellsModule}
 use Rattle.wasm_reading.specs.ReadValues.{and_then, u32_at, bytes_at, name_at, all_of, with_rest, IsExact}
 use Rattle.wasm_reading.specs.ReadModule.{next_from, section_at, sections_at, all_held, held_at, start_held, both, Fields, fields_of, module_with, counted, module_of, preamble_at, body_at, module_at}
-use Rattle.wasm_reading.proofs.ValueLaws.{chose_some, some_is, read_first, with_takes, u32_exact, vec_exact, bytes_exact, name_exact, all_spelled, all_again}
+use Rattle.wasm_reading.proofs.ValueLaws.{chose_some, so_some, read_first, with_takes, u32_exact, vec_exact, bytes_exact, name_exact, all_spelled, all_again}
 use Rattle.wasm_reading.proofs.TypeLaws.{functype_exact, memory_exact, table_exact}
 use Rattle.wasm_reading.proofs.EntryLaws.{import_exact, global_exact, export_exact, element_exact, code_exact, segment_exact}
 
 map_some : {X Y : Type 0} (f : X → Y) (o : Option X) (y : Y) → option_map f o ≡ Some y → (x : X) × (o ≡ Some x) × (f x ≡ y)
 map_some f None y h = cc
-map_some f (Some x) y h = (x, refl, some_is _ _ h)
-
-so_some : {X Y : Type 0} (f : X → Option Y) (o : Option X) (y : Y) → option_and_then f o ≡ Some y → (x : X) × (o ≡ Some x) × (f x ≡ Some y)
-so_some f None y h = cc
-so_some f (Some x) y h = (x, refl, h)
+map_some f (Some x) y h = (x, refl, same_Some _ _ h)
 
 -- a name in front
 custom_of : (content : List ℕ) (o : Option (List ℕ × List ℕ)) → name_at content ≡ o → is_some o ≡ true → IsCustom content
@@ -39,7 +36,7 @@ IsPlaced next s n =
 
 next_takes : (next b : ℕ) (content : List ℕ) (n : ℕ) → next_from next b content ≡ Some n → IsPlaced next (record { id = b; content = content }) n
 next_takes next zero content n h =
-    let c = chose_some (is_some (name_at content)) (Some next) n h in inl (refl, custom_of content (name_at content) refl c.0, sym (some_is _ _ c.1))
+    let c = chose_some (is_some (name_at content)) (Some next) n h in inl (refl, custom_of content (name_at content) refl c.0, sym (same_Some _ _ c.1))
 next_takes next (suc b) content n h = inr (omega arith, grind arith, grind arith, grind arith)
 
 next_again : (next : ℕ) (s : Section) (n : ℕ) → IsPlaced next s n → next_from next s.id s.content ≡ Some n
@@ -81,7 +78,7 @@ order_first next s ss (inl w) = (next, inl (w.0, w.1, refl), w.2)
 order_first next s ss (inr w) = (s.id + 1, inr (w.0, w.1, w.2, refl), w.3)
 
 sections_take : (n next : ℕ) (bytes : List ℕ) (ss : List Section) → sections_at n next bytes ≡ Some ss → SpellsEach SpellsSection bytes ss × InOrder next ss
-sections_take n next [] ss h = subst (λ z. SpellsEach SpellsSection [] z × InOrder next z) (some_is _ _ h) (refl, tt)
+sections_take n next [] ss h = subst (λ z. SpellsEach SpellsSection [] z × InOrder next z) (same_Some _ _ h) (refl, tt)
 sections_take zero next (b ∷ bytes) ss h = cc
 sections_take (suc n) next (b ∷ bytes) ss h =
     let u = read_first (section_at next (b ∷ bytes)) (λ s rest. option_map (λ ss. s.0 ∷ ss) (sections_at n s.1 rest)) ss h in
@@ -114,7 +111,7 @@ record IsHeld {X : Type 0} (H : List Section → X → Type 0) (r : List Section
 held_exact : {X : Type 0} {S : List ℕ → X → Type 0} {r : List ℕ → Option (X × List ℕ)} (id : ℕ) → IsExact S r → IsHeld (Holds S id) (held_at r id)
 held_exact {X} {S} {r} id e = record { takes = λ ss xs h. takes (content_of id ss) xs h; again = λ ss xs h. again (content_of id ss) xs h } where
   takes : (o : Option (List ℕ)) (xs : List X) → all_held r o ≡ Some xs → MatchOption o (xs ≡ []) (λ content. SpellsVec S content xs)
-  takes None xs h = sym (some_is _ _ h)
+  takes None xs h = sym (same_Some _ _ h)
   takes (Some content) xs h = all_spelled (vec_exact e) content xs h
 
   again : (o : Option (List ℕ)) (xs : List X) → MatchOption o (xs ≡ []) (λ content. SpellsVec S content xs) → all_held r o ≡ Some xs
@@ -124,7 +121,7 @@ held_exact {X} {S} {r} id e = record { takes = λ ss xs h. takes (content_of id 
 start_exact : IsHeld HoldsStart (λ ss. start_held (content_of 8 ss))
 start_exact = record { takes = λ ss x h. takes ss (content_of 8 ss) refl x h; again = again } where
   takes : (ss : List Section) (o : Option (List ℕ)) → content_of 8 ss ≡ o → (x : Option ℕ) → start_held o ≡ Some x → HoldsStart ss x
-  takes ss None e x h = subst (λ z. HoldsStart ss z) (some_is _ _ h) e
+  takes ss None e x h = subst (λ z. HoldsStart ss z) (same_Some _ _ h) e
   takes ss (Some content) e x h =
       let m = map_some (λ f. Some f) (all_of (u32_at content)) x h in
       subst (λ z. HoldsStart ss z) m.2 (subst (λ o. MatchOption o ⊥ (λ content. SpellsU32 content m.0)) (sym e) (all_spelled u32_exact content m.0 m.1))
@@ -147,10 +144,10 @@ both_exact {X} {Y} {H} {K} {r} {s} d e = record {
   some : (o : Option X) (q : Option Y) (z : X × Y) → both o q ≡ Some z → (o ≡ Some z.0) × (q ≡ Some z.1)
   some None q z h = cc
   some (Some x) None z h = cc
-  some (Some x) (Some y) z h = (ap (λ w. Some w.0) (some_is _ _ h), ap (λ w. Some w.1) (some_is _ _ h))
+  some (Some x) (Some y) z h = (ap (λ w. Some w.0) (same_Some _ _ h), ap (λ w. Some w.1) (same_Some _ _ h))
 
 -- what the sections hold
-abbrev Hold : List Section → Fields → Type 0
+abbrev pub Hold : List Section → Fields → Type 0
 Hold ss (types, (imports, (functions, (tables, (memories, (globals, (exports, (start, (elements, (codes, segments)))))))))) =
     Holds SpellsFuncType 1 ss types × (Holds SpellsImport 2 ss imports × (Holds SpellsU32 3 ss functions × (Holds SpellsTable 4 ss tables × (Holds SpellsMemory 5 ss memories
     × (Holds SpellsGlobal 6 ss globals × (Holds SpellsExport 7 ss exports × (HoldsStart ss start × (Holds SpellsElement 9 ss elements × (Holds SpellsCode 10 ss codes × Holds SpellsSegment 11 ss segments)))))))))
@@ -161,8 +158,34 @@ fields_exact =
     (both_exact (held_exact 5 memory_exact) (both_exact (held_exact 6 global_exact) (both_exact (held_exact 7 export_exact) (both_exact start_exact
     (both_exact (held_exact 9 element_exact) (both_exact (held_exact 10 code_exact) (held_exact 11 segment_exact))))))))))
 
+-- the parts of a module
+abbrev pub parts_of : Module → Fields
+parts_of m = (m.types, (m.imports, (m.functions, (m.tables, (m.memories, (m.globals, (m.exports, (m.start, (m.elements, (m.codes, m.segments))))))))))
+
+pub spelled_by : (bytes body : List ℕ) (ss : List Section) (m : Module) → bytes ≡ preamble ++ body → SpellsEach SpellsSection body ss → InOrder 1 ss → Hold ss (parts_of m) → length m.functions ≡ length m.codes → SpellsModule bytes m
+spelled_by bytes body ss m begins parts order (types, (imports, (functions, (tables, (memories, (globals, (exports, (start, (elements, (codes, segments)))))))))) counts =
+    record {
+      sections = ss;
+      body = body;
+      begins = begins;
+      parts = parts;
+      order = order;
+      types = types;
+      imports = imports;
+      functions = functions;
+      tables = tables;
+      memories = memories;
+      globals = globals;
+      exports = exports;
+      start = start;
+      elements = elements;
+      codes = codes;
+      segments = segments;
+      counts = counts;
+    }
+
 preamble_takes : (cs bytes body : List ℕ) → preamble_at cs bytes ≡ Some body → bytes ≡ cs ++ body
-preamble_takes [] bytes body h = some_is _ _ h
+preamble_takes [] bytes body h = same_Some _ _ h
 preamble_takes (c ∷ cs) [] body h = cc
 preamble_takes (c ∷ cs) (b ∷ bytes) body h =
     let p = chose_some (b == c) (preamble_at cs bytes) body h in
@@ -181,26 +204,7 @@ module_takes bytes m h =
     let t = sections_take (length p.0) 1 p.0 s.0 s.1 in
     let f = so_some (λ f. counted (module_with f)) (fields_of s.0) m s.2 in
     let c = chose_some (length (module_with f.0).functions == length (module_with f.0).codes) (Some (module_with f.0)) m f.2 in
-    let (types, (imports, (functions, (tables, (memories, (globals, (exports, (start, (elements, (codes, segments)))))))))) = fields_exact.takes s.0 f.0 f.1 in
-    subst (λ z. SpellsModule bytes z) (some_is _ _ c.1) (record {
-      sections = s.0;
-      body = p.0;
-      begins = preamble_takes preamble bytes p.0 p.1;
-      parts = t.0;
-      order = t.1;
-      types = types;
-      imports = imports;
-      functions = functions;
-      tables = tables;
-      memories = memories;
-      globals = globals;
-      exports = exports;
-      start = start;
-      elements = elements;
-      codes = codes;
-      segments = segments;
-      counts = eqb-true _ _ c.0;
-    })
+    subst (λ z. SpellsModule bytes z) (same_Some _ _ c.1) (spelled_by bytes p.0 s.0 (module_with f.0) (preamble_takes preamble bytes p.0 p.1) t.0 t.1 (fields_exact.takes s.0 f.0 f.1) (eqb-true _ _ c.0))
 
 -- what is spelled as a module is read so
 pub module_again : (bytes : List ℕ) (m : Module) → SpellsModule bytes m → module_at bytes ≡ Some m
@@ -210,10 +214,9 @@ module_again bytes m h =
     ∙ ap (λ o. option_and_then body_at o) (preamble_again preamble h.body)
     ∙ ap (λ o. option_and_then module_of o) (sections_again h.sections (length h.body) 1 h.body (omega arith) h.parts h.order)
     ∙ ap (λ o. option_and_then (λ f. counted (module_with f)) o)
-    (fields_exact.again h.sections
-    (m.types, (m.imports, (m.functions, (m.tables, (m.memories, (m.globals, (m.exports, (m.start, (m.elements, (m.codes, m.segments))))))))))
+    (fields_exact.again h.sections (parts_of m)
     (h.types, (h.imports, (h.functions, (h.tables, (h.memories, (h.globals, (h.exports, (h.start, (h.elements, (h.codes, h.segments)))))))))))
     ∙ ap (λ t. cond t (Some m) None) (eq-eqb _ _ h.counts)
 
 pub one_module : (bytes : List ℕ) (m n : Module) → SpellsModule bytes m → SpellsModule bytes n → m ≡ n
-one_module bytes m n p q = some_is m n (sym (module_again bytes m p) ∙ module_again bytes n q)
+one_module bytes m n p q = same_Some m n (sym (module_again bytes m p) ∙ module_again bytes n q)

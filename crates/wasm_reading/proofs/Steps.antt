@@ -1,5 +1,6 @@
 -- The reading of an expression step by step.
 use Rattle.std.proofs.Common.{◌≡◌, ℕ, zero, suc, ◌≤◌, ◌<◌, List, [], ◌∷◌, length, Option, Some, None, refl, sym, ◌∙◌, ap, subst, arith, length-append}
+use Rattle.std.proofs.lemmas.Option.{same_Some}
 use Rattle.wasm_ast.specs.declared.instr.Instr.{Instr}
 use Rattle.wasm_ast.specs.declared.opcode.{Opcode.Opcode, AtomicOpcode.AtomicOpcode}
 use Rattle.wasm_ast.specs.declared.opcode.Opcode.TheVariants as op
@@ -13,7 +14,7 @@ use Rattle.wasm_reading.specs.declared.exprs.Step.TheVariants.{Continue, Complet
 use Rattle.wasm_reading.specs.ReadValues.{and_then, mapped, IsExact}
 use Rattle.wasm_reading.specs.ReadInstr.{immediates_at}
 use Rattle.wasm_reading.specs.ReadExpr.{shape_of, behind_shape, step_at, goes_on, steps_at, rest_at}
-use Rattle.wasm_reading.proofs.ValueLaws.{some_is, read_first, chose_some}
+use Rattle.wasm_reading.proofs.ValueLaws.{read_first, chose_some}
 use Rattle.wasm_reading.proofs.InstrLaws.{immediates_exact}
 use Rattle.wasm_reading.proofs.TypeLaws.{blocktype_exact}
 
@@ -40,12 +41,12 @@ shorter exact bytes x rest h = let t = exact.takes bytes x rest h in omega (arit
 mapped_shorter : {X Y : Type 0} {S : List ℕ → X → Type 0} {r : List ℕ → Option (X × List ℕ)} → IsExact S r → (f : X → Y) (bytes : List ℕ) (y : Y) (rest : List ℕ) → mapped f r bytes ≡ Some (y, rest) → length rest ≤ length bytes
 mapped_shorter {r = r} exact f bytes y rest h =
     let u = read_first (r bytes) (λ x more. Some (f x, more)) (y, rest) h in
-    omega (arith, shorter exact bytes u.0 u.1 u.2, ap length (ap (λ z. z.1) (some_is _ _ u.3)))
+    omega (arith, shorter exact bytes u.0 u.1 u.2, ap length (ap (λ z. z.1) (same_Some _ _ u.3)))
 
 -- a step takes a byte at least
 shape_shorter : (of : Shape) (o : Opcode) (v : Built) (bytes : List ℕ) (p : Step) (rest : List ℕ) → behind_shape of o v bytes ≡ Some (p, rest) → length rest ≤ length bytes
-shape_shorter shape.End o v bytes p rest h = omega (arith, ap length (ap (λ z. z.1) (some_is _ _ h)))
-shape_shorter shape.Else o v bytes p rest h = omega (arith, ap length (ap (λ z. z.1) (some_is _ _ (chose_some (takes_else v.opens) (Some (Continue (with_else v), bytes)) (p, rest) h).1)))
+shape_shorter shape.End o v bytes p rest h = omega (arith, ap length (ap (λ z. z.1) (same_Some _ _ h)))
+shape_shorter shape.Else o v bytes p rest h = omega (arith, ap length (ap (λ z. z.1) (same_Some _ _ (chose_some (takes_else v.opens) (Some (Continue (with_else v), bytes)) (p, rest) h).1)))
 shape_shorter (shape.Begin c) o v bytes p rest h = mapped_shorter blocktype_exact _ bytes p rest h
 shape_shorter shape.Plain o v bytes p rest h = mapped_shorter (immediates_exact o) _ bytes p rest h
 

@@ -3,6 +3,7 @@ use Rattle.std.proofs.Common.{◌≡◌, ℕ, Bool, true, false, cond, List, [],
 use Rattle.wasm_ast.specs.declared.types.{ValType.ValType, Limits.Limits}
 use Rattle.wasm_ast.specs.declared.types.ValType.TheVariants.{I32, I64, F32, F64}
 use Rattle.wasm_ast.specs.Spelling.{Joined, Behind, SpellsU32}
+use Rattle.wasm_ast.specs.CanonInstr.{block_type_byte}
 use Rattle.wasm_ast.specs.SpelledTypes.{valtype_byte, SpellsValType, SpellsBlockType, SpellsFuncType, LimitsForm, SpellsMemory, SpellsTable, SpellsGlobalType}
 use Rattle.wasm_reading.specs.ReadValues.{and_then, pair_at, next_at, u32_at, IsExact}
 use Rattle.wasm_reading.specs.ReadTypes.{valtype_of, valtype_at, blocktype_of, blocktype_at, functype_at, one_limit, two_limits, memory_at, unshared_at, table_at, flag_of, globaltype_at}
@@ -20,30 +21,26 @@ of_valtype F64 = refl
 pub valtype_exact : IsExact SpellsValType valtype_at
 valtype_exact = byte_exact valtype_of valtype_byte valtype_of_is of_valtype
 
-abbrev blocktype_byte : Option ValType → ℕ
-blocktype_byte None = 0x40
-blocktype_byte (Some of) = valtype_byte of
-
-blocktype_of_is : (b : ℕ) (x : Option ValType) → blocktype_of b ≡ Some x → b ≡ blocktype_byte x
+blocktype_of_is : (b : ℕ) (x : Option ValType) → blocktype_of b ≡ Some x → b ≡ block_type_byte x
 blocktype_of_is b x h = grind arith
 
-of_blocktype : (x : Option ValType) → blocktype_of (blocktype_byte x) ≡ Some x
+of_blocktype : (x : Option ValType) → blocktype_of (block_type_byte x) ≡ Some x
 of_blocktype None = refl
 of_blocktype (Some I32) = refl
 of_blocktype (Some I64) = refl
 of_blocktype (Some F32) = refl
 of_blocktype (Some F64) = refl
 
-to_blocktype : (bytes : List ℕ) (x : Option ValType) → bytes ≡ blocktype_byte x ∷ [] → SpellsBlockType bytes x
+to_blocktype : (bytes : List ℕ) (x : Option ValType) → bytes ≡ block_type_byte x ∷ [] → SpellsBlockType bytes x
 to_blocktype bytes None h = h
 to_blocktype bytes (Some of) h = h
 
-from_blocktype : (bytes : List ℕ) (x : Option ValType) → SpellsBlockType bytes x → bytes ≡ blocktype_byte x ∷ []
+from_blocktype : (bytes : List ℕ) (x : Option ValType) → SpellsBlockType bytes x → bytes ≡ block_type_byte x ∷ []
 from_blocktype bytes None h = h
 from_blocktype bytes (Some of) h = h
 
 pub blocktype_exact : IsExact SpellsBlockType blocktype_at
-blocktype_exact = exact_as SpellsBlockType to_blocktype from_blocktype (byte_exact blocktype_of blocktype_byte blocktype_of_is of_blocktype)
+blocktype_exact = exact_as SpellsBlockType to_blocktype from_blocktype (byte_exact blocktype_of block_type_byte blocktype_of_is of_blocktype)
 
 pub functype_exact : IsExact SpellsFuncType functype_at
 functype_exact = mapped_exact SpellsFuncType (λ f. record { params = f.0; results = f.1 }) (behind_exact 0x60 (pair_exact (vec_exact valtype_exact) (vec_exact valtype_exact)))

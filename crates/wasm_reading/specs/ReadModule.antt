@@ -8,7 +8,7 @@ use Rattle.wasm_ast.specs.declared.module.ImportKind.TheVariants as imported
 use Rattle.wasm_ast.specs.declared.module.ExportKind.TheVariants as exported
 use Rattle.wasm_ast.specs.Locals.{added}
 use Rattle.wasm_ast.specs.SpelledModule.{Section, content_of, preamble}
-use Rattle.wasm_reading.specs.ReadValues.{and_then, mapped, pair_at, next_at, u32_at, vec_at, bytes_at, name_at, all_of, with_rest, sized_at}
+use Rattle.wasm_reading.specs.ReadValues.{and_then, mapped, pair_at, next_at, u32_at, many_at, counted_at, vec_at, bytes_at, name_at, all_of, with_rest, sized_at}
 use Rattle.wasm_reading.specs.ReadTypes.{valtype_at, functype_at, memory_at, table_at, globaltype_at}
 use Rattle.wasm_reading.specs.ReadExpr.{expr_at}
 
@@ -44,14 +44,16 @@ segment_at bytes = mapped (λ s. record { memory = s.0; offset = s.1.0; bytes = 
 abbrev pub group_at : List ℕ → Option (LocalGroup × List ℕ)
 group_at bytes = mapped (λ g. record { count = g.0; of = g.1 }) (pair_at u32_at valtype_at) bytes
 
--- so many groups of locals, behind so many locals in groups
-abbrev pub groups_at : ℕ → ℕ → List LocalGroup → List ℕ → Option (List LocalGroup × List ℕ)
-groups_at zero count groups bytes = Some (groups, bytes)
-groups_at (suc n) count groups bytes =
-    and_then (group_at bytes) (λ g rest. if nat_lt (count + g.count) (2 ^ 32) then groups_at n (count + g.count) (added groups g) rest else None)
+-- a group behind so many locals in groups
+abbrev pub with_group : ℕ × List LocalGroup → LocalGroup → Option (ℕ × List LocalGroup)
+with_group ls g = if nat_lt (ls.0 + g.count) (2 ^ 32) then Some (ls.0 + g.count, added ls.1 g) else None
+
+-- so many groups of locals
+abbrev pub groups_at : ℕ → List ℕ → Option (List LocalGroup × List ℕ)
+groups_at n bytes = mapped (λ ls. ls.1) (many_at with_group group_at n (0, [])) bytes
 
 abbrev pub locals_at : List ℕ → Option (List LocalGroup × List ℕ)
-locals_at bytes = and_then (u32_at bytes) (λ n rest. groups_at n 0 [] rest)
+locals_at bytes = mapped (λ ls. ls.1) (counted_at with_group group_at (0, [])) bytes
 
 abbrev pub code_at : List ℕ → Option (Code × List ℕ)
 code_at bytes = sized_at (mapped (λ c. record { locals = c.0; body = c.1 }) (pair_at locals_at expr_at)) bytes

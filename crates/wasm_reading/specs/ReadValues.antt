@@ -1,5 +1,6 @@
 -- Reading from the front of a list of bytes: a value and the bytes behind it, or nothing.
 use Rattle.std.specs.Prelude.{◌≡◌, ℕ, ℤ, zero, suc, ◌==◌, nat_lt, if◌then◌else◌, List, [], ◌∷◌, ◌++◌, length, take, drop, Option, Some, None}
+use Rattle.std.specs.Option.{option_and_then}
 use Rattle.std.specs.Result.{result_ok}
 use Rattle.std.specs.Str.{is_utf8}
 use Rattle.byte_cursor.specs.Integers.{BeginsWith}
@@ -36,14 +37,26 @@ i32_at bytes = result_ok (cursor.signed_at 32 bytes)
 unfoldable pub i64_at : List ℕ → Option (ℤ × List ℕ)
 i64_at bytes = result_ok (cursor.signed_at 64 bytes)
 
+-- so many things, each of which is added to what the earlier ones gave, if it can be
+abbrev pub many_at : {S X : Type 0} → (S → X → Option S) → (List ℕ → Option (X × List ℕ)) → ℕ → S → List ℕ → Option (S × List ℕ)
+many_at add r zero s bytes = Some (s, bytes)
+many_at add r (suc n) s bytes = and_then (r bytes) (λ x rest. option_and_then (λ t. many_at add r n t rest) (add s x))
+
+-- an item behind others
+abbrev pub with_item : {X : Type 0} → List X → X → Option (List X)
+with_item xs x = Some (xs ++ x ∷ [])
+
 -- so many items
 abbrev pub each_at : {X : Type 0} → (List ℕ → Option (X × List ℕ)) → ℕ → List ℕ → Option (List X × List ℕ)
-each_at r zero bytes = Some ([], bytes)
-each_at r (suc n) bytes = and_then (r bytes) (λ x mid. and_then (each_at r n mid) (λ xs rest. Some (x ∷ xs, rest)))
+each_at r n bytes = many_at with_item r n [] bytes
+
+-- how many there are, and what they give
+abbrev pub counted_at : {S X : Type 0} → (S → X → Option S) → (List ℕ → Option (X × List ℕ)) → S → List ℕ → Option (S × List ℕ)
+counted_at add r s bytes = and_then (u32_at bytes) (λ n rest. many_at add r n s rest)
 
 -- a vector
 abbrev pub vec_at : {X : Type 0} → (List ℕ → Option (X × List ℕ)) → List ℕ → Option (List X × List ℕ)
-vec_at r bytes = and_then (u32_at bytes) (λ n rest. each_at r n rest)
+vec_at r bytes = counted_at with_item r [] bytes
 
 -- so many bytes
 abbrev pub span_at : ℕ → List ℕ → Option (List ℕ × List ℕ)

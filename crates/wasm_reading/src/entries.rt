@@ -121,7 +121,7 @@ fn group(cursor: &mut Cursor<'_>) -> Result<LocalGroup, ReadFault>
 
 /// So many groups of locals.
 fn groups(alloc: Global, cursor: &mut Cursor<'_>, n: u32) -> Result<Locals, ReadFault>
-    ensures { Gives (λ x. x) result cursor.new (groups_at n 0 [] cursor.old) }
+    ensures { Gives (λ x. x) result cursor.new (groups_at n cursor.old) }
 {
     let mut locals = Locals::new(alloc);
     let mut count: u32 = 0;

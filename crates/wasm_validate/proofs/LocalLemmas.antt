@@ -1,5 +1,6 @@
 -- The type of a local is that of a parameter, or of one behind the parameters.
-use Rattle.std.proofs.Common.{◌≡◌, ℕ, zero, suc, ◌+◌, ◌-◌, ◌<◌, ◌≤◌, List, [], ◌∷◌, length, get_or, Some, None, refl, sym, ap, ◌∙◌, arith}
+use Rattle.std.proofs.Common.{◌≡◌, ℕ, zero, suc, ◌+◌, ◌-◌, ◌<◌, ◌≤◌, List, [], ◌∷◌, length, get_or, slice_get, Some, None, option_map, refl, sym, ap, ◌∙◌, arith}
+use Rattle.std.proofs.lemmas.Option.{slice_get-get_or, slice_get_past}
 use Rattle.wasm_ast.specs.declared.types.ValType.{ValType}
 use Rattle.wasm_ast.specs.declared.locals.LocalGroup.{LocalGroup}
 use Rattle.wasm_ast.specs.Typing.{group_type, local_type}
@@ -35,23 +36,15 @@ ends_rise start (g ∷ gs) zero (suc j) h k = end_behind (start + g.count) gs j 
 ends_rise start (g ∷ gs) (suc i) zero h k = absurd (omega arith)
 ends_rise start (g ∷ gs) (suc i) (suc j) h k = ends_rise (start + g.count) gs i j (omega arith) (omega arith)
 
--- the local stands in the first group that ends behind it
-pub group_at : (start : ℕ) (gs : List LocalGroup) (n k : ℕ) (d : LocalGroup) → ((j : ℕ) → j < k → get_or (ends_from start gs) j 0 ≤ start + n) → k < length gs →
-    start + n < get_or (ends_from start gs) k 0 → group_type gs n ≡ Some (get_or gs k d).of
-group_at start [] n k d below h above = absurd (omega arith)
-group_at start (g ∷ gs) n zero d below h above = grind arith
-group_at start (g ∷ gs) n (suc k) d below h above =
+-- the local stands in the first group that ends behind it, or in none
+group_at : (start : ℕ) (gs : List LocalGroup) (n k : ℕ) → ((j : ℕ) → j < k → get_or (ends_from start gs) j 0 ≤ start + n) → (k < length gs → start + n < get_or (ends_from start gs) k 0) →
+    group_type gs n ≡ option_map (λ (g : LocalGroup). g.of) (slice_get gs k)
+group_at start [] n k below above = refl
+group_at start (g ∷ gs) n zero below above = let h : start + n < start + g.count = above (omega arith) in grind arith
+group_at start (g ∷ gs) n (suc k) below above =
     let first : start + g.count ≤ start + n = below 0 (omega arith) in
     let same : start + g.count + (n - g.count) ≡ start + n = omega arith in
-    let r = group_at (start + g.count) gs (n - g.count) k d (λ j p. omega (arith, same, below (suc j) (omega arith))) (omega arith) (omega (arith, same)) in grind arith
-
--- behind all groups there is none
-pub group_past : (start : ℕ) (gs : List LocalGroup) (n : ℕ) → ((j : ℕ) → j < length gs → get_or (ends_from start gs) j 0 ≤ start + n) → group_type gs n ≡ None
-group_past start [] n below = refl
-group_past start (g ∷ gs) n below =
-    let first : start + g.count ≤ start + n = below 0 (omega arith) in
-    let same : start + g.count + (n - g.count) ≡ start + n = omega arith in
-    let r = group_past (start + g.count) gs (n - g.count) (λ j p. omega (arith, same, below (suc j) (omega arith))) in grind arith
+    let r = group_at (start + g.count) gs (n - g.count) k (λ j p. omega (arith, same, below (suc j) (omega arith))) (λ p. omega (arith, same, above (omega arith))) in grind arith
 
 -- the same over the ends that are kept
 module _ (gs : List LocalGroup) (ends : List ℕ) (e : ends ≡ ends_from 0 gs) where
@@ -68,7 +61,7 @@ module _ (gs : List LocalGroup) (ends : List ℕ) (e : ends ≡ ends_from 0 gs) 
       Some (get_or gs low d).of ≡ group_type gs n
   found n low high d h q below above =
       let past : n < get_or ends low 0 = above low q (omega (arith, as_many)) in
-      sym (group_at 0 gs n low d (λ j p. at_ends n j (below j p)) h (rw (← e) (omega arith)))
+      sym (group_at 0 gs n low (λ j p. at_ends n j (below j p)) (λ k. rw (← e) (omega arith)) ∙ ap (option_map (λ (g : LocalGroup). g.of)) (slice_get-get_or gs low d h))
 
   pub absent : (n low : ℕ) → length gs ≤ low → ((k : ℕ) → k < low → get_or ends k 0 ≤ n) → None ≡ group_type gs n
-  absent n low h below = sym (group_past 0 gs n (λ j p. at_ends n j (below j (omega arith))))
+  absent n low h below = sym (group_at 0 gs n low (λ j p. at_ends n j (below j p)) (λ k. absurd (omega arith)) ∙ ap (option_map (λ (g : LocalGroup). g.of)) (slice_get_past gs low h))

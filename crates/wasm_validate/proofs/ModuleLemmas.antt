@@ -15,11 +15,7 @@ use Rattle.wasm_ast.specs.Typing.{Context}
 use Rattle.wasm_ast.specs.TypingModule.{is_constant_instruction, are_constant, are_different, are_functions}
 
 constant_front : (globals : List (ValType × Bool)) (F : ℕ → Sequence) (i : Instr) (rest : Sequence) → are_constant globals (in_front F i rest) ≡ (is_constant_instruction globals i && are_constant globals rest)
-constant_front globals F (instr.Block of body) rest = refl
-constant_front globals F (instr.Loop of body) rest = refl
-constant_front globals F (instr.If of first second) rest = refl
 constant_front globals F (instr.Variable GlobalGet x) rest = refl
-constant_front globals F (instr.Variable op x) rest = refl
 constant_front globals F _ rest = refl
 
 pub are_constant-sequence : (globals : List (ValType × Bool)) (F : ℕ → Sequence) (is : List Instr) → are_constant globals (sequence F is) ≡ list_all (is_constant_instruction globals) is

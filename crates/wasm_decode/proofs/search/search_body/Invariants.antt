@@ -9,8 +9,8 @@ use Rattle.wasm_decode.proofs.search.search_body.Given as goal
 abbrev pub invariant-events : goal.invariant-events
 invariant-events l = record {
   within : l.level ≤ 256;
-  float : (l.float || list_any event_is_float l.walk) ≡ (l.initial.float || has_float l.body);
-  deep : (l.deep || is_deep_from l.level l.walk) ≡ (l.initial.deep || is_deep l.body);
+  float : (l.found.float || list_any event_is_float l.walk) ≡ (l.initial.found.float || has_float l.body);
+  deep : (l.found.deep || is_deep_from l.level l.walk) ≡ (l.initial.found.deep || is_deep l.body);
 }
 
 abbrev pub decreases-events : goal.decreases-events

@@ -1,20 +1,18 @@
-use Rattle.std.proofs.Common.{arith}
+use Rattle.std.proofs.Common.{[], Some, sym, ap, arith}
 use Rattle.std.proofs.lemmas.Result.{err_from_is_err_and}
 use Rattle.wasm_reading.specs.ReadTypes.{table_at}
-use Rattle.wasm_reading.proofs.ItemLemmas.{begun_none, begun_more, begun_none_left, begun_all, handed_on}
+use Rattle.wasm_reading.specs.ReadValues.{with_item}
+use Rattle.wasm_reading.proofs.ItemLemmas.{begun_more, begun_cut, begun_all, handed_on}
 use Rattle.wasm_reading.proofs.modules.tables.Goals as goal
-
-pub loop-init : goal.loop-init
-loop-init c = begun_none table_at c.args.n c.args.cursor.now _ c.new-items.ensures.items
 
 pub returns-in_err-table : goal.returns-in_err-table
 returns-in_err-table c =
     let p = err_from_is_err_and c.from_residual.result c.from_residual.ensures.1 in
     rw (p.1, p.2) (handed_on c.in_err-table.field-0.0 _ _ c.in_err-table.ensures
-    (begun_none_left table_at c.args.n c.args.cursor.now c.loop.counter _ _ c.loop.invariant c.loop-test.true))
+    (begun_cut with_item table_at c.args.n [] c.args.cursor.now c.loop.counter _ _ c.loop.invariant c.loop-test.true))
 
 pub loop-preserved : goal.loop-preserved
-loop-preserved c = begun_more table_at c.args.n c.args.cursor.now c.loop.counter _ _ _ _ _ c.loop.invariant c.in_ok-table.ensures c.in_ok-push.ensures.items
+loop-preserved c = begun_more with_item table_at c.args.n [] c.args.cursor.now c.loop.counter _ _ _ _ _ c.loop.invariant c.in_ok-table.ensures (ap Some (sym c.in_ok-push.ensures.items))
 
 pub returns : goal.returns
-returns c = begun_all table_at c.args.n c.args.cursor.now c.loop.counter _ _ c.loop.invariant (omega arith)
+returns c = begun_all with_item table_at c.args.n [] c.args.cursor.now c.loop.counter _ _ c.loop.invariant (omega arith)
