@@ -7,4 +7,4 @@ mod stack;
 mod thread;
 
 pub use entries::{OpenFrame, OpenLabel};
-pub use thread::Thread;
+pub use thread::{MOST_LABELS, MOST_VALUES, Thread};

@@ -26,10 +26,10 @@ use wasm_ast::{Module, Position};
 const MOST_FRAMES: usize = 1024;
 
 /// The most values of a thread, the locals of its frames among them.
-const MOST_VALUES: usize = 65_536;
+pub const MOST_VALUES: usize = 65_536;
 
 /// The most labels of a thread.
-const MOST_LABELS: usize = 16_384;
+pub const MOST_LABELS: usize = 16_384;
 
 /// A guest thread. Contracts see what it stands for in its module. All the room that it may come to need is
 /// taken when it starts.

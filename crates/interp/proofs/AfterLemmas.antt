@@ -1,5 +1,5 @@
 -- Several steps, and what is kept of a thread at a place.
-use Rattle.std.proofs.Common.{◌≡◌, ℕ, zero, suc, ◌+◌, ◌<◌, add-one, length, refl, sym, ap, subst, true, Option, Some, None}
+use Rattle.std.proofs.Common.{◌≡◌, ℕ, ◌+◌, ◌<◌, length, refl, sym, ap, subst, ◌∙◌, true, Option, Some, None}
 use Rattle.std.specs.Prelude.{slice_get}
 use Rattle.std.proofs.lemmas.Option.{slice_get_within}
 use Rattle.linear_memory.specs.LinearMemory.{LinearMemory}
@@ -15,31 +15,11 @@ use Rattle.guest_state.proofs.ThreadLemmas.{function_is}
 use Rattle.wasm_steps.specs.Kept.{IsKept, IsMemory}
 use Rattle.wasm_steps.specs.Step.{after, onward, step}
 use Rattle.wasm_steps.specs.Stepped.{AtCall, AtNotify, AtWait, Finished, Next, Stepped, Stuck, Trapped}
+use Rattle.wasm_steps.proofs.After.{after_split}
 use Rattle.wasm_steps.proofs.Kept.{step_kept}
 use Rattle.interp.specs.declared.stop.Stop.TheVariants as stop
 use Rattle.interp.specs.Stops.{stop_of}
 use Rattle.interp.proofs.ControlLemmas.{has_first}
-
--- where one continuation leads on wherever the other does
-onward_more : (f g : LinearMemory → GuestThread → Option (LinearMemory × GuestThread)) (x y : LinearMemory × GuestThread) → ((memory : LinearMemory) (t : GuestThread) → f memory t ≡ Some x → g memory t ≡ Some y)
-    → (stepped : Stepped) → onward f stepped ≡ Some x → onward g stepped ≡ Some y
-onward_more f g x y more (Next a b) e = more a b e
-onward_more f g x y more (Trapped cause) e = cc
-onward_more f g x y more (AtCall i) e = cc
-onward_more f g x y more (AtWait width at) e = cc
-onward_more f g x y more (AtNotify at) e = cc
-onward_more f g x y more Finished e = cc
-onward_more f g x y more Stuck e = cc
-
--- n steps, and then one more
-pub after_more : (n : ℕ) (m : Module) (memory : LinearMemory) (t : GuestThread) (memory' : LinearMemory) (t' : GuestThread) (memory'' : LinearMemory) (t'' : GuestThread)
-    → after n m memory t ≡ Some (memory', t') → step m memory' t' ≡ Next memory'' t'' → after (suc n) m memory t ≡ Some (memory'', t'')
-after_more zero m memory t memory' t' memory'' t'' e s =
-    let same : ◌≡◌ {A = LinearMemory × GuestThread} (memory', t') (memory, t) = cc in
-    let here : step m memory t ≡ Next memory'' t'' = subst (λ x. step m x.0 x.1 ≡ Next memory'' t'') same s in
-    ap (onward (after 0 m)) here
-after_more (suc n) m memory t memory' t' memory'' t'' e s =
-    onward_more (after n m) (after (suc n) m) (memory', t') (memory'', t'') (λ a b h. after_more n m a b memory' t' memory'' t'' h s) (step m memory t) e
 
 -- a step is kept
 pub kept_step : (m : Module) (memory : LinearMemory) (t : GuestThread) (memory' : LinearMemory) (t' : GuestThread) → is_typed m ≡ true → IsMemory memory → Fits m t → step m memory t ≡ Next memory' t' → IsMemory memory' × Fits m t'
@@ -80,4 +60,4 @@ pub went_on : (n : ℕ) (m : Module) (first memory memory' : LinearMemory) (bega
     → after n m first began ≡ Some (memory, t) → step m memory t ≡ Next memory' t' → Went n m first began memory' t'
 went_on n m first memory memory' began t t' typed is fits steps here =
     let kept = kept_step m memory t memory' t' typed is fits here in
-    record { steps = rw add-one (after_more n m first began memory t memory' t' steps here); bytes = kept.0; fits = kept.1 }
+    record { steps = after_split n 1 m first began memory t steps ∙ ap (onward (after 0 m)) here; bytes = kept.0; fits = kept.1 }

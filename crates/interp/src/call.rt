@@ -15,13 +15,10 @@ ghost use Rattle.interp.specs.Rows.{Moves, call_row, row_of};
 ghost use Rattle.interp.specs.Stops.{stop_of};
 
 use crate::stop::{Reached, Stop};
-use guest_state::Thread;
+use guest_state::{MOST_VALUES, Thread};
 use int_ops::Cause;
 use wasm_ast::{FuncType, Instr, Module, Position, ValType};
 use wasm_validate::Valid;
-
-/// The most values of a thread.
-pub const MOST_VALUES: usize = 65_536;
 
 /// Whether two lists of types are equal.
 fn same_types(some: &[ValType], others: &[ValType]) -> bool

@@ -14,12 +14,9 @@ ghost use Rattle.interp.specs.Reached.{Reaches, branches};
 ghost use Rattle.interp.specs.Rows.{Keeps, left_at, of_first, row_of, chosen_row};
 
 use crate::stop::{Reached, Stop};
-use guest_state::Thread;
+use guest_state::{MOST_LABELS, Thread};
 use int_ops::Cause;
 use wasm_ast::{Instr, Position, Targets};
-
-/// The most labels of a thread.
-pub const MOST_LABELS: usize = 16_384;
 
 /// Into a block or a loop, the list of that number. `StackFull` comes exactly where 16,384 labels are open.
 #[inline(always)]

@@ -18,12 +18,11 @@ ghost use Rattle.interp.specs.Stops.{stop_of, trap_of};
 ghost use Rattle.linear_memory.specs.Accesses.{accessed, accessed_atomically};
 
 use crate::atomic::{notify, wait};
-use crate::call::{MOST_VALUES, call_indirect_stop, call_stop};
-use crate::control::MOST_LABELS;
+use crate::call::{call_indirect_stop, call_stop};
 use crate::memory::{form_width, load_width};
 use crate::step::instruction;
 use crate::stop::Stop;
-use guest_state::Thread;
+use guest_state::{MOST_LABELS, MOST_VALUES, Thread};
 use int_ops::Cause;
 use linear_memory::Memory;
 use wasm_ast::{Access, Instr, MemArg, NumericOp, Position, VariableOp};

@@ -6,6 +6,7 @@ use Rattle.std.specs.declared.cmp.Ordering.{Ordering}
 use Rattle.std.specs.declared.cmp.Ordering.TheVariants.{Less, Equal, Greater}
 use Rattle.std.specs.Ordering.{nat_cmp, is_eq, is_lt, eq_by_cmp}
 use Rattle.std.specs.Cmp.{IsTotalOrder}
+use Rattle.std.proofs.lemmas.Bool.{or_right}
 use Rattle.std.proofs.lemmas.Cmp.{eq_by_cmp_equiv, nat_cmp_total, on_total, then_total}
 use Rattle.std.specs.FinMap.{FinMap, get, insert, remove, entries, values, find, is_sorted, entries_sorted, get-insert, get-remove, get-entries, get-from_entries, IsAntisymmetric}
 use Rattle.std.specs.FinMap.Entries.{below_all}
@@ -37,10 +38,6 @@ pub thread_cmp_exact : IsAntisymmetric thread_cmp
 thread_cmp_exact a b e = exact_pairs nat_cmp nat_cmp exact_unsigned exact_unsigned (a.0, a.1) (b.0, b.1) e
 
 -- ---- a value that passes a test stands at a key
-
-later : (a b : Bool) → b ≡ true → (a || b) ≡ true
-later true b e = refl
-later false b e = e
 
 left : (a b : Bool) → T (a && b) → T a
 left true b p = tt
@@ -95,7 +92,7 @@ any_among R p q v [] found passes = cc
 any_among R p q v (e ∷ es) found passes =
     elim (eq_by_cmp R q e.0) as (λ b. cond b (Some e.1) (find R q es) ≡ Some v → (p e.1 || list_any p (map (λ f. f.1) es)) ≡ true) [
       | true ↦ λ is. let here : p e.1 ≡ true = (let same : e.1 ≡ v = cc in ap p same ∙ passes) in ap (λ b. b || list_any p (map (λ f. f.1) es)) here
-      | false ↦ λ is. later (p e.1) _ (any_among R p q v es is passes)
+      | false ↦ λ is. or_right (p e.1) _ (any_among R p q v es is passes)
     ] found
 
 pub any_value : {K X : Type 0} {R : K → K → Ordering} (p : X → Bool) (m : FinMap R X) (q : K) (v : X) → get m q ≡ Some v → p v ≡ true → list_any p (values m) ≡ true

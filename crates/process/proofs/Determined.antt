@@ -1,15 +1,26 @@
 -- A slice ends in one way.
-use Rattle.std.proofs.Common.{◌≡◌, ◌<◌, ◌≤◌, ◌-◌, inl, inr, ℕ, suc, ◌+◌, Option, Some, None, sym, ap, ◌∙◌, arith}
+use Rattle.std.proofs.Common.{◌≡◌, ◌<◌, ◌≤◌, ◌-◌, inl, inr, ℕ, suc, ◌+◌, Option, Some, None, sym, ap, subst, ◌∙◌, arith}
 use Rattle.std.proofs.lemmas.Bool.{cases_order}
 use Rattle.std.specs.FinMap.{get}
 use Rattle.guest_state.specs.GuestThread.{GuestThread}
 use Rattle.wx_types.specs.declared.requests.Request.{Request}
 use Rattle.wasm_steps.specs.Step.{step, after}
 use Rattle.fork_exec.specs.Process.{Process, fuel_left}
-use Rattle.process.specs.Asked.{AskedBy, Sliced, Absent, most_steps, with_steps}
+use Rattle.linear_memory.specs.LinearMemory.{LinearMemory}
+use Rattle.wasm_ast.specs.declared.module.Module.{Module}
+use Rattle.process.specs.Asked.{AskedBy, EndsSlice, Sliced, Absent, most_steps, with_steps}
 use Rattle.process.specs.Stops.{request_at}
 use Rattle.process.specs.Laws.{SlicesEndOnce}
-use Rattle.process.proofs.Splits.{State, no_more}
+use Rattle.wasm_steps.proofs.After.{after_split, onward_next}
+
+-- a memory and a thread
+abbrev State : Type 0
+State = LinearMemory × GuestThread
+
+-- a slice that ends after n steps has no more of them, but where that is as many as it has
+no_more : (n k most : ℕ) (p : Module) (m : LinearMemory) (t : GuestThread) (m' : LinearMemory) (t' : GuestThread) (x : State) → after n p m t ≡ Some (m', t') → EndsSlice n most (step p m' t') → after (n + suc k) p m t ≡ Some x → n ≡ most
+no_more n k most p m t m' t' x here ends longer =
+    subst (EndsSlice n most) (onward_next (after k p) x (step p m' t') (sym (after_split n (suc k) p m t m' t' here) ∙ longer)).2 ends
 
 -- a slice that ends after n steps doesn't end after more
 not_later : (process : Process) (tid slice : ℕ) (thread : GuestThread) (n n' : ℕ) (request request' : Request) (stopped stopped' : Process) → Sliced process tid slice thread n request stopped → Sliced process tid slice thread n' request' stopped' → n < n' → ⊥

@@ -1,4 +1,4 @@
-pub mod Splits
 pub mod Determined
 pub mod Made
 pub mod Examples
+pub mod Quiet

@@ -1,6 +1,6 @@
 -- What an answer makes, and where the steps of a turn lead.
-use Rattle.std.proofs.Common.{◌≡◌, ◌≢◌, ℕ, true, false, Option, Some, None, refl, sym, ap, ◌∙◌, arith}
-use Rattle.std.specs.Prelude.{◌==◌}
+use Rattle.std.proofs.Common.{◌≡◌, ℕ, true, Option, Some, None, refl, sym, ap, ◌∙◌}
+use Rattle.std.proofs.lemmas.Bool.{eqb-true}
 use Rattle.std.specs.Option.{option_map}
 use Rattle.std.specs.FinMap.{get}
 use Rattle.guest_state.specs.GuestThread.{GuestThread}
@@ -19,14 +19,6 @@ pub mapped_from : {A B : Type 0} (f : A → B) (o : Option A) (y : B) → option
 mapped_from f None y e = cc
 mapped_from f (Some x) y e = (x, refl, cc)
 
--- ---- numbers
-
-pub same_number : (a b : ℕ) → (a == b) ≡ true → a ≡ b
-same_number a b e = grind (arith)
-
-pub other_number : (a b : ℕ) → (a == b) ≡ false → b ≢ a
-other_number a b e h = grind (arith)
-
 -- ---- what an answer makes
 
 -- an outcome that makes the process of that number, and that the caller can take, makes it
@@ -38,12 +30,12 @@ makes_made stopped tid request program (Fork number) q x m e =
     let thread = mapped_from _ (get stopped.threads tid) x e in (
       copy_of stopped thread.0,
       ap (λ (found : Option GuestThread). option_map (λ (copy : Process). (number, copy)) (option_map (copy_of stopped) found)) thread.1
-          ∙ ap (λ n. Some (n, copy_of stopped thread.0)) (same_number number q m),
+          ∙ ap (λ n. Some (n, copy_of stopped thread.0)) (eqb-true number q m),
     )
 makes_made stopped tid request None (Spawn number) q x m e = cc
 makes_made stopped tid request (Some image) (Spawn number) q x m e = (
   fresh image (new_arguments request) stopped.environment stopped.fuel,
-  ap (λ n. Some (n, fresh image (new_arguments request) stopped.environment stopped.fuel)) (same_number number q m),
+  ap (λ n. Some (n, fresh image (new_arguments request) stopped.environment stopped.fuel)) (eqb-true number q m),
 )
 makes_made stopped tid request program (Ended all) q x m e = cc
 makes_made stopped tid request program GoneOutcome q x m e = cc

@@ -1,7 +1,3 @@
-pub mod Comes
-pub mod Calls
-pub mod Waits
-pub mod Imports
 pub mod Console
 pub mod Turns
 pub mod Runs

@@ -187,51 +187,26 @@ module _ (world : World) (program : Program) (memory : LinearMemory) (thread : G
 -- ---- the requests, by how the thread stops
 
 module _ (program : Program) (memory : LinearMemory) (next : GuestThread) (left : ℕ) where
-  abbrev Asks : Stepped → Request → Type 0
-  Asks stepped request = request_at program memory next left stepped ≡ Some request
+  -- what the process asks for where its thread stops so
+  abbrev asked_by : Stop → Option Request
+  asked_by stop.Spent = Some (plain_request (cond (eqb left 0) 2 1) [])
+  asked_by (stop.Trap cause) = Some (plain_request 3 [])
+  asked_by (stop.Call x) = option_map (call_request memory (arguments_of next (import_arguments program x))) (call_of program x)
+  asked_by stop.Finished = Some (plain_request 4 (flag next.main ∷ []))
+  asked_by _ = None
 
-  abbrev spent_call : ℕ
-  spent_call = cond (eqb left 0) 2 1
+  asks : (s : Stepped) (stopped : Stop) → StopsAs s stopped → request_at program memory next left s ≡ asked_by stopped
+  asks (Next m t) stopped h = rw h refl
+  asks (Trapped cause) stopped h = rw h refl
+  asks (AtCall x) stopped h = rw h refl
+  asks (AtWait width at) stopped h = absurd h
+  asks (AtNotify at) stopped h = absurd h
+  asks Finished stopped h = rw h refl
+  asks Stuck stopped h = absurd h
 
-  asks_spent : (s : Stepped) → StopsAs s stop.Spent → Asks s (plain_request spent_call [])
-  asks_spent (Next m t) h = refl
-  asks_spent (Trapped cause) h = absurd (cc)
-  asks_spent (AtCall f) h = absurd (cc)
-  asks_spent (AtWait width at) h = absurd h
-  asks_spent (AtNotify at) h = absurd h
-  asks_spent Finished h = absurd (cc)
-  asks_spent Stuck h = absurd h
-
-  asks_trap : (s : Stepped) (cause : Cause) → StopsAs s (stop.Trap cause) → Asks s (plain_request 3 [])
-  asks_trap (Next m t) c h = absurd (cc)
-  asks_trap (Trapped cause) c h = refl
-  asks_trap (AtCall f) c h = absurd (cc)
-  asks_trap (AtWait width at) c h = absurd h
-  asks_trap (AtNotify at) c h = absurd h
-  asks_trap Finished c h = absurd (cc)
-  asks_trap Stuck c h = absurd h
-
-  asks_return : (s : Stepped) → StopsAs s stop.Finished → next.main ≡ true → Asks s (plain_request 4 (1 ∷ []))
-  asks_return (Next m t) h main = absurd (cc)
-  asks_return (Trapped cause) h main = absurd (cc)
-  asks_return (AtCall f) h main = absurd (cc)
-  asks_return (AtWait width at) h main = absurd h
-  asks_return (AtNotify at) h main = absurd h
-  asks_return Finished h main = ap (λ b. Some (plain_request 4 (flag b ∷ []))) main
-  asks_return Stuck h main = absurd h
-
-  pub is_call : (s : Stepped) (x : ℕ) → StopsAs s (stop.Call x) → s ≡ AtCall x
-  is_call (Next m t) x h = absurd (cc)
-  is_call (Trapped cause) x h = absurd (cc)
-  is_call (AtCall f) x h = let same : x ≡ f = cc in sym (ap AtCall same)
-  is_call (AtWait width at) x h = absurd h
-  is_call (AtNotify at) x h = absurd h
-  is_call Finished x h = absurd (cc)
-  is_call Stuck x h = absurd h
-
-  asks_call : (s : Stepped) (x call : ℕ) (arguments : List ℕ) → StopsAs s (stop.Call x) → call_of program x ≡ Some call → arguments ≡ arguments_of next (import_arguments program x) → Asks s (call_request memory arguments call)
-  asks_call s x call arguments h known same =
-      ap (λ (stepped : Stepped). request_at program memory next left stepped) (is_call s x h)
+  asks_call : (s : Stepped) (x call : ℕ) (arguments : List ℕ) → s ≡ AtCall x → call_of program x ≡ Some call → arguments ≡ arguments_of next (import_arguments program x) → request_at program memory next left s ≡ Some (call_request memory arguments call)
+  asks_call s x call arguments stands known same =
+      ap (λ (stepped : Stepped). request_at program memory next left stepped) stands
       ∙ ap (option_map (call_request memory (arguments_of next (import_arguments program x)))) known
       ∙ ap (λ (words : List ℕ). Some (call_request memory words call)) (sym same)
 
@@ -251,48 +226,48 @@ module _ (world : World) (program : Program) (memory : LinearMemory) (thread : G
   pub spent_leads : Ran program memory thread most ran stop.Spent memory' next → eqb (left - ran) 0 ≡ false → LeadsOn world program memory' next slice (left - ran) (reply_entry ran 1 nothing) None
   spent_leads ran_so some =
       reply_leads world program memory thread slice left at most ran stop.Spent memory' next its_most ran_so (plain_request 1 [])
-      (asks_spent program memory' next (left - ran) (step program.module memory' next) ran_so.stops ∙ ap (λ b. Some (plain_request (cond b 2 1) [])) some)
+      (asks program memory' next (left - ran) (step program.module memory' next) stop.Spent ran_so.stops ∙ ap (λ b. Some (plain_request (cond b 2 1) [])) some)
       0 [] Nowhere memory' next refl
       (record { its_program = at.its_program; its_memory = refl; here = get-insert_same nat_cmp_total (insert at.process.threads 1 next) 1 next; its_left = fewer })
 
   pub fuel_leads : Ran program memory thread most ran stop.Spent memory' next → eqb (left - ran) 0 ≡ true → LeadsOn world program memory' next slice (left - ran) (end_entry ran 2) (Some (end.Killed 24))
   fuel_leads ran_so none =
       end_leads world program memory thread slice left at most ran stop.Spent memory' next its_most ran_so (plain_request 2 [])
-      (asks_spent program memory' next (left - ran) (step program.module memory' next) ran_so.stops ∙ ap (λ b. Some (plain_request (cond b 2 1) [])) none)
+      (asks program memory' next (left - ran) (step program.module memory' next) stop.Spent ran_so.stops ∙ ap (λ b. Some (plain_request (cond b 2 1) [])) none)
       (Killed 24) refl
 
   pub trap_leads : (cause : Cause) → Ran program memory thread most ran (stop.Trap cause) memory' next → LeadsOn world program memory' next slice (left - ran) (end_entry ran 3) (Some (end.Killed 6))
   trap_leads cause ran_so =
       end_leads world program memory thread slice left at most ran (stop.Trap cause) memory' next its_most ran_so (plain_request 3 [])
-      (asks_trap program memory' next (left - ran) (step program.module memory' next) cause ran_so.stops)
+      (asks program memory' next (left - ran) (step program.module memory' next) (stop.Trap cause) ran_so.stops)
       (Killed 6) refl
 
   pub return_leads : Ran program memory thread most ran stop.Finished memory' next → next.main ≡ true → LeadsOn world program memory' next slice (left - ran) (end_entry ran 4) (Some (end.Exited 0))
   return_leads ran_so main =
       end_leads world program memory thread slice left at most ran stop.Finished memory' next its_most ran_so (plain_request 4 (1 ∷ []))
-      (asks_return program memory' next (left - ran) (step program.module memory' next) ran_so.stops main)
+      (asks program memory' next (left - ran) (step program.module memory' next) stop.Finished ran_so.stops ∙ ap (λ b. Some (plain_request 4 (flag b ∷ []))) main)
       (Exited 0) refl
 
-  pub exit_leads : (x code : ℕ) → Ran program memory thread most ran (stop.Call x) memory' next → call_of program x ≡ Some 37 → (code ∷ []) ≡ arguments_of next (import_arguments program x)
+  pub exit_leads : (x code : ℕ) → Ran program memory thread most ran (stop.Call x) memory' next → step program.module memory' next ≡ AtCall x → call_of program x ≡ Some 37 → (code ∷ []) ≡ arguments_of next (import_arguments program x)
       → LeadsOn world program memory' next slice (left - ran) (end_entry ran 37) (Some (end.Exited code))
-  exit_leads x code ran_so known arguments =
+  exit_leads x code ran_so stands known arguments =
       end_leads world program memory thread slice left at most ran (stop.Call x) memory' next its_most ran_so (plain_request 37 (code ∷ []))
-      (asks_call program memory' next (left - ran) (step program.module memory' next) x 37 (code ∷ []) ran_so.stops known arguments)
+      (asks_call program memory' next (left - ran) (step program.module memory' next) x 37 (code ∷ []) stands known arguments)
       (Exited code) refl
 
-  pub write_leads : (x : ℕ) (arguments : List ℕ) → Ran program memory thread most ran (stop.Call x) memory' next → call_of program x ≡ Some 17 → arguments ≡ arguments_of next (import_arguments program x) → import_arguments program x ≡ 4
+  pub write_leads : (x : ℕ) (arguments : List ℕ) → Ran program memory thread most ran (stop.Call x) memory' next → step program.module memory' next ≡ AtCall x → call_of program x ≡ Some 17 → arguments ≡ arguments_of next (import_arguments program x) → import_arguments program x ≡ 4
       → LeadsOn world program (memory_after memory' arguments) (in_frame (answered 4 (Some (reply_of memory' arguments).errno)) next) slice (left - ran) (reply_entry ran 17 (reply_of memory' arguments)) None
-  write_leads x arguments ran_so known same four =
+  write_leads x arguments ran_so stands known same four =
       let request : Request = request_of memory'.bytes 17 arguments in
       let reply : WriteReply = reply_of memory' arguments in
       let operands : operands_at at.process.program (step at.process.program.module memory' next) ≡ 4 =
-      subst (λ (p : Program). operands_at p (step p.module memory' next) ≡ 4) (sym at.its_program) (ap (operands_at program) (is_call program memory' next (left - ran) (step program.module memory' next) x ran_so.stops) ∙ four) in
+      subst (λ (p : Program). operands_at p (step p.module memory' next) ≡ 4) (sym at.its_program) (ap (operands_at program) stands ∙ four) in
       let told : Process = record (with_steps at.process 1 ran memory' next) {
         memory = memory_after memory' arguments;
         threads = insert (insert at.process.threads 1 next) 1 (in_frame (answered (operands_at at.process.program (step at.process.program.module memory' next)) (Some reply.errno)) next);
       } in
       reply_leads world program memory thread slice left at most ran (stop.Call x) memory' next its_most ran_so request
-      (asks_call program memory' next (left - ran) (step program.module memory' next) x 17 arguments ran_so.stops known same)
+      (asks_call program memory' next (left - ran) (step program.module memory' next) x 17 arguments stands known same)
       reply.errno reply.bytes reply.place (memory_after memory' arguments) (in_frame (answered 4 (Some reply.errno)) next)
       (write_answer (risen world.kernel) at.descriptors at.descriptions request)
       (subst (λ (o : Process). Leaves o program (memory_after memory' arguments) (in_frame (answered 4 (Some reply.errno)) next) (left - ran)) (sym (same_either (eqb reply.errno 0) told)) (record {

@@ -24,7 +24,7 @@ use instance::Program;
 use interp::{Stop, Stopped, advance};
 use linear_memory::Memory;
 use std::alloc::{AllocError, Global};
-use wasix_abi::{apply, request_laws, request_of};
+use wasix_abi::{FD_WRITE, apply, request_laws, request_of};
 use world_step::runs_are_journals;
 use wx_types::{Bytes, Entry, Errno, Outcome, Place, Request};
 
@@ -45,8 +45,6 @@ const OUT_OF_FUEL: u16 = 2;
 const TRAPPED: u16 = 3;
 
 const LAST_RETURN: u16 = 4;
-
-const FD_WRITE: u16 = 17;
 
 const PROC_EXIT: u16 = 37;
 
@@ -296,6 +294,7 @@ fn call(
 {
     let valid = program.valid();
     let module = valid.module();
+    let _pages = memory.size();
     match program.call_of(import) {
         Some(FD_WRITE) => {
             let written = write(alloc, program, memory, thread, ran, import)?;

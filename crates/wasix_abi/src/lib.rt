@@ -6,4 +6,4 @@ mod replies;
 mod requests;
 
 pub use replies::apply;
-pub use requests::{request_laws, request_of};
+pub use requests::{FD_WRITE, request_laws, request_of};

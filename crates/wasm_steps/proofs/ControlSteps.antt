@@ -1,9 +1,9 @@
 -- Control instructions are kept: blocks, branches, calls, returns and the ends of blocks and functions.
-use Rattle.std.proofs.Common.{◌≡◌, ℕ, zero, suc, ◌+◌, ◌-◌, ◌≤◌, ◌⊎◌, inl, inr, Bool, true, false, ◌&&◌, cond, eqb, ltb, leb, List, [], ◌∷◌, ◌++◌, length, take, drop, get_or, reverse, Option, Some, None, option_to_list, Ok, Err, refl, sym, ap, ap₂, subst, ◌∙◌, arith}
+use Rattle.std.proofs.Common.{◌≡◌, ℕ, zero, suc, ◌+◌, ◌-◌, ◌⊎◌, inl, inr, Bool, true, false, ◌&&◌, cond, eqb, ltb, leb, List, [], ◌∷◌, ◌++◌, length, take, drop, get_or, reverse, Option, Some, None, option_to_list, Ok, Err, refl, sym, ap, ap₂, subst, ◌∙◌, arith}
 use Rattle.std.specs.Prelude.{slice_get, option_and_then}
 use Rattle.std.specs.List.{list_all}
-use Rattle.std.proofs.lemmas.Bool.{and_parts, eq-eqb, le-ltb, ltb-false, ne_eqb}
-use Rattle.std.proofs.lemmas.List.{append-nil, length-reverse}
+use Rattle.std.proofs.lemmas.Bool.{and_parts, eq-eqb, le-ltb, ltb-false, ltb-true, ne_eqb}
+use Rattle.std.proofs.lemmas.List.{append-nil}
 use Rattle.std.proofs.lemmas.Option.{slice_get_within}
 use Rattle.int_ops.specs.declared.trap.Cause.TheVariants.{StackFull, TypeMismatch, UndefinedElement}
 use Rattle.linear_memory.specs.LinearMemory.{LinearMemory}
@@ -17,20 +17,20 @@ use Rattle.wasm_ast.specs.Types.{same_type}
 use Rattle.wasm_ast.specs.Sequence.{Sequence, Empty, Block, If}
 use Rattle.wasm_ast.specs.Typing.{Labels, Operands, leaves, no_operands, pop_expected, push_operands, same_label, table_label, takes, typed}
 use Rattle.wasm_ast.specs.TypingModule.{functions_of, is_typed}
-use Rattle.guest_state.specs.Fits.{FitFrames, FitsFrame, HaveTypes, IsAnsweredBy, operands_of, result_of}
+use Rattle.guest_state.specs.Fits.{FitFrames, FitsFrame, HaveTypes, operands_of, result_of}
 use Rattle.guest_state.specs.GuestThread.{Frame, GuestThread, Label, label_count, value_count}
 use Rattle.guest_state.specs.Module.{further_locals, param_count, type_of}
 use Rattle.guest_state.specs.Steps.{called, entered, has_room, most_labels, most_values, returned}
-use Rattle.guest_state.proofs.AnswerLemmas.{bind_some, if_some, same_types, some_same, taken_known}
+use Rattle.guest_state.proofs.AnswerLemmas.{bind_some, if_some, same_types, taken_known}
 use Rattle.wasm_steps.specs.Control.{resumed, step_block, step_branch, step_call, step_call_indirect, step_end, step_if, step_return}
-use Rattle.wasm_steps.specs.Kept.{IsMemory}
+use Rattle.wasm_steps.specs.Kept.{Awaits, IsMemory, Keeps}
 use Rattle.wasm_steps.specs.Stepped.{AtCall, Next, Stepped, Trapped}
 use Rattle.wasm_ast.specs.Table as table
 use Rattle.wasm_steps.proofs.Branches as branches
 use Rattle.wasm_steps.proofs.Branches.{LabelAt, branched_stands, closed_stands, label_at, left_stands, one_turned, opened_stands, result_stands}
 use Rattle.wasm_steps.proofs.Calls.{called_frames, own_type, placed_typed, result_same}
-use Rattle.wasm_steps.proofs.Operands.{Stands, enough, have_take, number_first}
-use Rattle.wasm_steps.proofs.Running.{Keeps, Running, Takes, goes_kept, kept_either, as_thread}
+use Rattle.wasm_steps.proofs.Operands.{Stands, enough, have_take, number_first, taken_enough}
+use Rattle.wasm_steps.proofs.Running.{Running, Takes, goes_kept, kept_either, as_thread}
 
 block_parts : (leaves_type : Option ValType) (test : Bool) (o : Option Operands) → leaves leaves_type (cond test o None) ≡ true → (test ≡ true) × (leaves leaves_type o ≡ true)
 block_parts leaves_type true o e = (refl, e)
@@ -76,13 +76,6 @@ same_functions : (f g : FuncType) → table.same_function_type f g ≡ true → 
 same_functions f g e =
     let parts = and_parts (table.same_types f.params g.params) (table.same_types f.results g.results) e in
     ap₂ (λ ps rs. record { params = ps; results = rs }) (same_lists f.params g.params parts.0) (same_lists f.results g.results parts.1)
-
--- where a call stands, by the type of the function
-pub typed_stops : (m : Module) (t : GuestThread) (x : ℕ) (f : FuncType) → table.function_type m x ≡ Some f
-    → ((count : ℕ) (value : Option ℕ) → count ≡ length f.params → HaveTypes f.results (option_to_list value) → IsAnsweredBy m t count value) → Keeps m t (AtCall x)
-typed_stops m t x f type stops count value answer =
-    let same : answer.0 ≡ f = some_same answer.0 f (sym answer.1 ∙ type) in
-    stops count value (answer.2 ∙ ap (λ (g : FuncType). length g.params) same) (subst (λ (g : FuncType). HaveTypes g.results (option_to_list value)) same answer.3)
 
 module _ (m : Module) (r : Running m) (memory : LinearMemory) (is : IsMemory memory) where
   -- ---- blocks
@@ -208,17 +201,16 @@ module _ (m : Module) (r : Running m) (memory : LinearMemory) (is : IsMemory mem
     by false count fit = tt
 
   pub call_kept : (typed_module : is_typed m ≡ true) (x : ℕ) (f : FuncType) (rest : Sequence) (operands : List ℕ) → table.function_type m x ≡ Some f → Takes m r rest f.params f.results operands
-      → Keeps m (as_thread m r) (AtCall x) → Keeps m (as_thread m r) (step_call m memory (as_thread m r) r.frame x rest operands)
+      → Awaits m (as_thread m r) f.params f.results → Keeps m (as_thread m r) (step_call m memory (as_thread m r) r.frame x rest operands)
   call_kept typed_module x f rest operands type t stops =
-      let long : length f.params ≤ length operands = rw (length-reverse f.params) at (enough (reverse f.params) t.others operands t.values) in
-      let test : ltb (length operands) (length f.params) ≡ false = le-ltb (length operands) (length f.params) long in
+      let test : ltb (length operands) (length f.params) ≡ false = le-ltb (length operands) (length f.params) (taken_enough f.params t.others operands t.values) in
       let imported = ltb x (length (functions_of m.imports)) in
       let own = λ (e : imported ≡ false). called_kept typed_module (x - length (functions_of m.imports)) f rest operands (own_type m typed_module x f type (ltb-false x (length (functions_of m.imports)) e)) t in
       let answer = value_count (as_thread m r) + length f.results - (length f.params + (length r.frame.operands - length operands)) in
-      rw (type, test) (kept_either m (as_thread m r) imported _ _ (λ e. kept_either m (as_thread m r) (leb answer most_values) (AtCall x) (Trapped StackFull) (λ room. stops) (λ full. tt)) own)
+      rw (type, test) (kept_either m (as_thread m r) imported _ _ (λ e. kept_either m (as_thread m r) (leb answer most_values) (AtCall x) (Trapped StackFull) (λ room. record { imported = ltb-true x (length (functions_of m.imports)) e; type = f; its_type = type; awaits = stops }) (λ full. tt)) own)
 
   pub call_indirect_kept : (typed_module : is_typed m ≡ true) (t : ℕ) (f : FuncType) (rest : Sequence) (operands : List ℕ) → slice_get m.types t ≡ Some f → Takes m r rest (f.params ++ I32 ∷ []) f.results operands
-      → ((count : ℕ) (value : Option ℕ) → count ≡ length f.params → HaveTypes f.results (option_to_list value) → IsAnsweredBy m (as_thread m r) count value) → Keeps m (as_thread m r) (step_call_indirect m memory (as_thread m r) r.frame t rest operands)
+      → Awaits m (as_thread m r) f.params f.results → Keeps m (as_thread m r) (step_call_indirect m memory (as_thread m r) r.frame t rest operands)
   call_indirect_kept typed_module t f rest [] type taken stops = absurd (number_first f.params taken.others [] taken.values)
   call_indirect_kept typed_module t f rest (i ∷ left) type taken stops = by (table.last_put m m.elements i) refl where
     under : Takes m r rest f.params f.results left
@@ -230,7 +222,7 @@ module _ (m : Module) (r : Running m) (memory : LinearMemory) (is : IsMemory mem
         let found = placed_typed m typed_module i x e in
         let call = λ (same : table.same_function_type f found.0 ≡ true).
         let its : table.function_type m x ≡ Some f = found.1 ∙ ap Some (sym (same_functions f found.0 same)) in
-        call_kept typed_module x f rest left its under (typed_stops m (as_thread m r) x f its stops) in
+        call_kept typed_module x f rest left its under stops in
         rw (e, type, found.1)
         (kept_either m (as_thread m r) (ltb i (table.table_size m)) _ (Trapped UndefinedElement) (λ inside. kept_either m (as_thread m r) (table.same_function_type f found.0) _ (Trapped TypeMismatch) call (λ other. tt)) (λ past. tt))
 

@@ -1,7 +1,6 @@
 -- Each step of a thread of a typed module is kept.
-use Rattle.std.proofs.Common.{◌≡◌, ℕ, zero, suc, Bool, true, ◌&&◌, eqb, List, [], ◌∷◌, ◌++◌, get_or, map, reverse, Option, Some, None, option_to_list, refl, sym, ap, subst, arith}
+use Rattle.std.proofs.Common.{◌≡◌, ℕ, zero, suc, Bool, true, ◌&&◌, eqb, List, [], ◌∷◌, ◌++◌, get_or, length, map, reverse, Option, Some, None, option_to_list, refl, sym, ap, subst, ◌∙◌, arith}
 use Rattle.std.specs.Prelude.{slice_get, option_and_then, nat_lt}
-use Rattle.std.proofs.lemmas.List.{length-append}
 use Rattle.int_ops.specs.declared.trap.Cause.TheVariants.{StackFull}
 use Rattle.linear_memory.specs.LinearMemory.{LinearMemory, page_count}
 use Rattle.wasm_ast.specs.declared.types.ValType.{ValType}
@@ -9,6 +8,7 @@ use Rattle.wasm_ast.specs.declared.types.ValType.TheVariants.{I32, I64}
 use Rattle.wasm_ast.specs.declared.types.FuncType.{FuncType}
 use Rattle.wasm_ast.specs.declared.instr.Instr.{Instr}
 use Rattle.wasm_ast.specs.declared.instr.Instr.TheVariants as instr
+use Rattle.wasm_ast.specs.declared.instr.Access.TheVariants.{Notify, Wait}
 use Rattle.wasm_ast.specs.declared.module.Module.{Module}
 use Rattle.wasm_ast.specs.Operators.{access_operands, access_results, numeric_operands, numeric_result}
 use Rattle.wasm_ast.specs.Sequence.{Sequence, Empty, Plain, Block, If}
@@ -17,15 +17,15 @@ use Rattle.wasm_ast.specs.TypingModule.{context_of, is_typed}
 use Rattle.guest_state.specs.Fits.{Fits, FitFrames, IsAnsweredBy, HaveTypes}
 use Rattle.guest_state.specs.GuestThread.{Frame, GuestThread}
 use Rattle.guest_state.proofs.AnswerLemmas.{Applies, applies, bind_some, if_true, number_applies, some_same, taken_known}
-use Rattle.wasm_steps.specs.Kept.{AreKept, IsAnswer, IsKept, IsMemory}
+use Rattle.wasm_steps.specs.Kept.{AreKept, AtImport, Awaits, IsAnswer, IsKept, IsMemory, Keeps}
 use Rattle.wasm_steps.specs.Step.{after as after_steps, onward, step, step_code, step_frames, step_plain}
 use Rattle.wasm_steps.specs.Stepped.{Next, Trapped, AtCall, AtWait, AtNotify, Finished, Stuck, Stepped, leaves as goes_behind}
 use Rattle.wasm_ast.specs.Table as table
 use Rattle.wasm_steps.specs.Control.{step_br_if, step_br_table}
 use Rattle.wasm_steps.proofs.Calls.{is_within}
-use Rattle.wasm_steps.proofs.ControlSteps.{block_kept, branch_kept, call_indirect_kept, call_kept, end_kept, if_kept, return_kept, table_takes, typed_stops}
+use Rattle.wasm_steps.proofs.ControlSteps.{block_kept, branch_kept, call_indirect_kept, call_kept, end_kept, if_kept, return_kept, table_takes}
 use Rattle.wasm_steps.proofs.Operands.{behind_typed, number_first}
-use Rattle.wasm_steps.proofs.Running.{Behind, Keeps, Running, found, stack, Takes, kept_either, leaves_kept, pushes_kept, as_thread, stands_answered}
+use Rattle.wasm_steps.proofs.Running.{Behind, Running, found, stack, Takes, awaits_all, awaits_under, kept_either, leaves_kept, pushes_kept, as_thread}
 use Rattle.wasm_steps.proofs.Values.{modulo_below}
 use Rattle.wasm_steps.proofs.ValueSteps.{access_kept, grow_kept, numeric_kept}
 use Rattle.wasm_steps.proofs.VariableSteps.{drop_applies, drop_kept, push_applies, select_applies, select_kept, variable_kept}
@@ -90,15 +90,16 @@ module _ (m : Module) (typed_module : is_typed m ≡ true) (r : Running m) (memo
   plain_kept (instr.Call x) rest u here e behind =
       let f = bind_some (λ (g : FuncType). applied g.params g.results (stack m r)) (function_type r.fits.c x) u e in
       let type = type_of_call x f.0 f.1 in
-      let stops = typed_stops m (as_thread m r) x f.0 type (λ count value few has. stands_answered m r (instr.Call x) rest f.0.params f.0.results here (ap (option_and_then (λ (g : FuncType). Some (g.params, g.results))) f.1) count value (omega arith) has) in
-      call_kept m r memory is typed_module x f.0 rest r.frame.operands type (found m r rest f.0.params f.0.results u (applies f.0.params f.0.results (stack m r) u f.2) behind) stops
+      let t = found m r rest f.0.params f.0.results u (applies f.0.params f.0.results (stack m r) u f.2) behind in
+      call_kept m r memory is typed_module x f.0 rest r.frame.operands type t
+      (awaits_all m r (instr.Call x) rest f.0.params f.0.results here (ap (option_and_then (λ (g : FuncType). Some (g.params, g.results))) f.1) refl t)
   plain_kept (instr.CallIndirect t) rest u here e behind =
       let all = if_true (nat_lt 0 r.fits.c.tables) _ u e in
       let f = bind_some (λ (g : FuncType). option_and_then (λ a. applied g.params g.results a) (pop_expected I32 (stack m r))) (slice_get r.fits.c.types t) u all in
       let type : slice_get m.types t ≡ Some f.0 = subst (λ ts. slice_get ts t ≡ Some f.0) (is_within m r.frame.function r.fits.c r.fits.its_context).types f.1 in
-      let params = f.0.params ++ I32 ∷ [] in
-      call_indirect_kept m r memory is typed_module t f.0 rest r.frame.operands type (found m r rest params f.0.results u (number_applies f.0.params f.0.results (stack m r) u f.2) behind)
-      (λ count value few has. stands_answered m r (instr.CallIndirect t) rest params f.0.results here (ap (option_and_then (λ (g : FuncType). Some (g.params ++ I32 ∷ [], g.results))) f.1) count value (omega (arith, length-append f.0.params (I32 ∷ []))) has)
+      let taken = found m r rest (f.0.params ++ I32 ∷ []) f.0.results u (number_applies f.0.params f.0.results (stack m r) u f.2) behind in
+      call_indirect_kept m r memory is typed_module t f.0 rest r.frame.operands type taken
+      (awaits_under m r (instr.CallIndirect t) rest f.0.params f.0.results here (ap (option_and_then (λ (g : FuncType). Some (g.params ++ I32 ∷ [], g.results))) f.1) refl taken)
   plain_kept instr.Drop rest u here e behind =
       let type = drop_applies r.fits.here.types u e in
       drop_kept m r memory is type.0 rest r.frame.operands (found m r rest (type.0 ∷ []) [] u type.1 behind)
@@ -108,8 +109,9 @@ module _ (m : Module) (typed_module : is_typed m ≡ true) (r : Running m) (memo
   plain_kept (instr.Variable op x) rest u here e behind = variable_kept m r memory is op x rest u e behind
   plain_kept (instr.Access op arg) rest u here e behind =
       let all = if_true (nat_lt 0 r.fits.c.memories && is_aligned op arg.align) (applied (access_operands op) (access_results op) (stack m r)) u e in
-      access_kept m r memory is op arg.offset rest r.frame.operands (found m r rest (access_operands op) (access_results op) u (applies (access_operands op) (access_results op) (stack m r) u all) behind)
-      (λ count value few has. stands_answered m r (instr.Access op arg) rest (access_operands op) (access_results op) here refl count value (omega arith) has)
+      let t = found m r rest (access_operands op) (access_results op) u (applies (access_operands op) (access_results op) (stack m r) u all) behind in
+      access_kept m r memory is op arg.offset rest r.frame.operands t
+      (record { arg = arg; rest = rest; before = here; awaits = awaits_all m r (instr.Access op arg) rest (access_operands op) (access_results op) here refl refl t })
   plain_kept instr.MemorySize rest u here e behind =
       let all = if_true (nat_lt 0 r.fits.c.memories) (Some (push_operand (Some I32) (stack m r))) u e in
       let pages = is.pages in
@@ -140,12 +142,13 @@ frames_kept m memory globals main full typed_module is values (f ∷ fs) fits =
     let r : Running m = record { frame = f; others = fs; globals = globals; main = main; full = full; fits = fits.0; below = fits.1; global_values = values } in
     code_kept m typed_module r memory is f.code refl fits.0.here.code_typed
 
-step_keeps : (m : Module) (memory : LinearMemory) (thread : GuestThread) → is_typed m ≡ true → IsMemory memory → Fits m thread → Keeps m thread (step m memory thread)
+-- What a step of a thread that fits a typed module comes to: the one walk over its cases.
+pub step_keeps : (m : Module) (memory : LinearMemory) (thread : GuestThread) → is_typed m ≡ true → IsMemory memory → Fits m thread → Keeps m thread (step m memory thread)
 step_keeps m memory thread typed_module is fits =
     kept_either m thread thread.full (Trapped StackFull) (step_frames m memory thread thread.frames) (λ full. tt)
     (λ free. frames_kept m memory thread.globals thread.main thread.full typed_module is fits.globals thread.frames fits.frames)
 
--- A step of a thread that fits a typed module lacks no operand and no label, and the thread that it leaves fits the module.
+-- It lacks no operand and no label, and the thread that it leaves fits the module.
 pub step_kept : (m : Module) (memory : LinearMemory) (thread : GuestThread) → is_typed m ≡ true → IsMemory memory → Fits m thread → IsKept m (step m memory thread)
 step_kept m memory thread typed_module is fits = by (step m memory thread) (step_keeps m memory thread typed_module is fits) where
   by : (stepped : Stepped) → Keeps m thread stepped → IsKept m stepped
@@ -158,14 +161,24 @@ pub main_kept : (m : Module) (memory memory' : LinearMemory) (thread thread' : G
 main_kept m memory memory' thread thread' typed_module is fits e =
     (subst (Keeps m thread) e (step_keeps m memory thread typed_module is fits)).2
 
+-- Where it stands at a call, that is one of an imported function; it awaits an answer of the function's type.
+pub at_import : (m : Module) (memory : LinearMemory) (thread : GuestThread) (function : ℕ) → is_typed m ≡ true → IsMemory memory → Fits m thread → step m memory thread ≡ AtCall function → AtImport m thread function
+at_import m memory thread function typed_module is fits e = subst (Keeps m thread) e (step_keeps m memory thread typed_module is fits)
+
+pub call_awaits : (m : Module) (thread : GuestThread) (function : ℕ) (type : FuncType) → AtImport m thread function → table.function_type m function ≡ Some type → Awaits m thread type.params type.results
+call_awaits m thread function type at its_type = subst (λ (f : FuncType). Awaits m thread f.params f.results) (some_same at.type type (sym at.its_type ∙ its_type)) at.awaits
+
 -- Where it stands at a call, a wait or a notify, an answer of that type is one that the thread goes on to fit after.
 pub answer_kept : (m : Module) (memory : LinearMemory) (thread : GuestThread) (count : ℕ) (value : Option ℕ) → is_typed m ≡ true → IsMemory memory → Fits m thread → IsAnswer m (step m memory thread) count value
     → IsAnsweredBy m thread count value
 answer_kept m memory thread count value typed_module is fits = by (step m memory thread) (step_keeps m memory thread typed_module is fits) where
+  of_count : (params results : List ValType) → Awaits m thread params results → count ≡ length params → HaveTypes results (option_to_list value) → IsAnsweredBy m thread count value
+  of_count params results awaits is_count has = subst (λ n. IsAnsweredBy m thread n value) (sym is_count) (awaits.answers value has)
+
   by : (stepped : Stepped) → Keeps m thread stepped → IsAnswer m stepped count value → IsAnsweredBy m thread count value
-  by (AtCall function) keeps answer = keeps count value answer
-  by (AtWait width at) keeps answer = keeps count value answer
-  by (AtNotify at) keeps answer = keeps count value answer
+  by (AtCall function) at answer = of_count answer.0.params answer.0.results (call_awaits m thread function answer.0 at answer.1) answer.2 answer.3
+  by (AtWait width at) stands answer = of_count (access_operands (Wait stands.0)) (I32 ∷ []) stands.2.awaits answer.0 answer.1
+  by (AtNotify at) stands answer = of_count (access_operands Notify) (I32 ∷ []) stands.awaits answer.0 answer.1
   by _ keeps answer = absurd answer
 
 -- So do several.

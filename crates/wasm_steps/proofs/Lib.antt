@@ -1,3 +1,4 @@
+pub mod After
 pub mod Branches
 pub mod Calls
 pub mod ControlSteps

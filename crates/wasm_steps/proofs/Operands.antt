@@ -121,3 +121,7 @@ number_first ps others operands h = rw (reverse-append ps (I32 ∷ [])) at h
 
 pub enough : (ts us : List ValType) (vs : List ℕ) → HaveTypes (ts ++ us) vs → length ts ≤ length vs
 enough ts us vs h = omega (arith, have_length (ts ++ us) vs h, length-append ts us)
+
+-- there are as many operands as are taken
+pub taken_enough : (ps others : List ValType) (operands : List ℕ) → HaveTypes (reverse ps ++ others) operands → length ps ≤ length operands
+taken_enough ps others operands h = rw (length-reverse ps) at (enough (reverse ps) others operands h)

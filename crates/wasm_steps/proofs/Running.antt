@@ -1,21 +1,23 @@
 -- A thread that has a frame and fits its module, and the ways in which an instruction goes on.
-use Rattle.std.proofs.Common.{◌≡◌, ℕ, ◌+◌, Bool, true, false, cond, ltb, List, [], ◌∷◌, ◌++◌, length, map, reverse, Option, Some, None, option_to_list, Result, Ok, Err, refl, sym, subst, ◌∙◌}
+use Rattle.std.proofs.Common.{◌≡◌, ℕ, ◌+◌, ◌≤◌, Bool, true, false, cond, ltb, List, [], ◌∷◌, ◌++◌, length, take, drop, map, reverse, Some, None, Result, Ok, Err, refl, sym, subst, ◌∙◌, arith}
+use Rattle.std.proofs.lemmas.List.{length-append}
 use Rattle.linear_memory.specs.LinearMemory.{LinearMemory}
 use Rattle.int_ops.specs.declared.trap.Cause.{Cause}
 use Rattle.int_ops.specs.declared.trap.Cause.TheVariants.{StackFull}
 use Rattle.wasm_ast.specs.declared.types.ValType.{ValType}
+use Rattle.wasm_ast.specs.declared.types.ValType.TheVariants.{I32}
 use Rattle.wasm_ast.specs.declared.module.Module.{Module}
 use Rattle.wasm_ast.specs.declared.instr.Instr.{Instr}
 use Rattle.wasm_ast.specs.Sequence.{Plain, Sequence}
 use Rattle.wasm_ast.specs.Typing.{Operands, leaves as leaves_typed, typed}
 use Rattle.wasm_ast.specs.TypingModule.{context_of}
-use Rattle.guest_state.specs.Fits.{FitFrames, Fits, IsAnsweredBy, answered_types, operands_of, FitsFrame, HaveTypes, HasType, local_types, result_of}
+use Rattle.guest_state.specs.Fits.{FitFrames, answered_types, operands_of, FitsFrame, HaveTypes, HasType, local_types, result_of}
 use Rattle.guest_state.specs.GuestThread.{Frame, GuestThread, Label, value_count}
 use Rattle.guest_state.specs.Steps.{most_values, over_arguments, over_instruction}
 use Rattle.guest_state.proofs.AnswerLemmas.{Applies, some_same}
-use Rattle.wasm_steps.specs.Kept.{IsAnswer, IsMemory}
-use Rattle.wasm_steps.specs.Stepped.{AtCall, AtNotify, AtWait, Finished, Next, Stepped, Stuck, Trapped, gives, leaves, pushes}
-use Rattle.wasm_steps.proofs.Operands.{Stands, Taken, given, stands_frame, taken}
+use Rattle.wasm_steps.specs.Kept.{Awaits, IsMemory, Keeps}
+use Rattle.wasm_steps.specs.Stepped.{Next, Stepped, Trapped, gives, leaves, pushes}
+use Rattle.wasm_steps.proofs.Operands.{Stands, Taken, given, number_first, stands_frame, taken, taken_enough, taken_values}
 
 pub record Running (m : Module) : Type 0 where
   pub frame : Frame
@@ -26,16 +28,6 @@ pub record Running (m : Module) : Type 0 where
   pub fits : FitsFrame m None frame
   pub below : FitFrames m (result_of m frame.function) others
   pub global_values : HaveTypes (map (λ g. g.0) (context_of m).globals) globals
-
--- what a thread keeps by its step, and what answers it where it stands
-abbrev pub Keeps : Module → GuestThread → Stepped → Type 0
-Keeps m t (Next memory thread) = IsMemory memory × Fits m thread × (thread.main ≡ t.main)
-Keeps m t (Trapped cause) = Unit {0}
-Keeps m t (AtCall function) = (count : ℕ) (value : Option ℕ) → IsAnswer m (AtCall function) count value → IsAnsweredBy m t count value
-Keeps m t (AtWait width at) = (count : ℕ) (value : Option ℕ) → IsAnswer m (AtWait width at) count value → IsAnsweredBy m t count value
-Keeps m t (AtNotify at) = (count : ℕ) (value : Option ℕ) → IsAnswer m (AtNotify at) count value → IsAnsweredBy m t count value
-Keeps m t Finished = Unit {0}
-Keeps m t Stuck = ⊥
 
 pub kept_either : (m : Module) (t : GuestThread) (b : Bool) (x y : Stepped) → (b ≡ true → Keeps m t x) → (b ≡ false → Keeps m t y) → Keeps m t (cond b x y)
 kept_either m t true x y p q = p refl
@@ -92,16 +84,41 @@ module _ (m : Module) (r : Running m) where
   gives_kept memory is rest ps type operands left (Ok value) t has values = leaves_kept memory is rest ps (type ∷ []) operands (value ∷ left) t (has, values)
   gives_kept memory is rest ps type operands left (Err cause) t has values = tt
 
-  -- the frame stands at an instruction that takes so many operands and gives this value
-  pub stands_answered : (i : Instr) (rest : Sequence) (params results : List ValType) → r.frame.code ≡ Plain i rest → answered_types r.fits.c i ≡ Some (params, results) → (count : ℕ) (value : Option ℕ)
-      → length params ≡ over_instruction i + count → HaveTypes results (option_to_list value) → IsAnsweredBy m as_thread count value
-  stands_answered i rest params results here types count value takes gives = record {
-    i = i;
-    rest = rest;
-    stands = here;
-    params = params;
-    results = results;
-    its_types = λ c e. subst (λ x. answered_types x i ≡ Some (params, results)) (some_same r.fits.c c (sym r.fits.its_context ∙ e)) types;
-    takes = subst (λ code. length params ≡ over_arguments code + count) (sym here) takes;
-    gives = gives;
+  -- ---- where the frame stands until it is answered
+
+  awaits : (i : Instr) (rest : Sequence) (params results all : List ValType) → r.frame.code ≡ Plain i rest → answered_types r.fits.c i ≡ Some (all, results) → length all ≡ over_instruction i + length params → length all ≤ length r.frame.operands
+      → HaveTypes params (reverse (take (length params) (drop (over_instruction i) r.frame.operands))) → Awaits m as_thread params results
+  awaits i rest params results all here types over long values = record {
+    some = omega arith;
+    takes = omega arith;
+    enough = subst (λ code. over_arguments code + length params ≤ length r.frame.operands) (sym here) (omega arith);
+    arguments = subst (λ code. HaveTypes params (reverse (take (length params) (drop (over_arguments code) r.frame.operands)))) (sym here) values;
+    answers = λ value gives. record {
+      i = i;
+      rest = rest;
+      stands = here;
+      params = all;
+      results = results;
+      its_types = λ c e. subst (λ x. answered_types x i ≡ Some (all, results)) (some_same r.fits.c c (sym r.fits.its_context ∙ e)) types;
+      takes = subst (λ code. length all ≡ over_arguments code + length params) (sym here) over;
+      gives = gives;
+    };
   }
+
+  -- at an instruction whose arguments are all that it takes
+  pub awaits_all : (i : Instr) (rest : Sequence) (params results : List ValType) → r.frame.code ≡ Plain i rest → answered_types r.fits.c i ≡ Some (params, results) → over_instruction i ≡ 0 → Takes rest params results r.frame.operands
+      → Awaits m as_thread params results
+  awaits_all i rest params results here types none t =
+      awaits i rest params results params here types (omega arith) (taken_enough params t.others r.frame.operands t.values)
+      (subst (λ n. HaveTypes params (reverse (take (length params) (drop n r.frame.operands)))) (sym none) (taken_values params t.others r.frame.operands t.values))
+
+  -- at one that takes a number above them
+  pub awaits_under : (i : Instr) (rest : Sequence) (params results : List ValType) → r.frame.code ≡ Plain i rest → answered_types r.fits.c i ≡ Some (params ++ I32 ∷ [], results) → over_instruction i ≡ 1
+      → Takes rest (params ++ I32 ∷ []) results r.frame.operands → Awaits m as_thread params results
+  awaits_under i rest params results here types one t =
+      awaits i rest params results (params ++ I32 ∷ []) here types (omega (arith, length-append params (I32 ∷ []))) (taken_enough (params ++ I32 ∷ []) t.others r.frame.operands t.values)
+      (subst (λ n. HaveTypes params (reverse (take (length params) (drop n r.frame.operands)))) (sym one) (under r.frame.operands (number_first params t.others r.frame.operands t.values)))
+    where
+      under : (vs : List ℕ) → HaveTypes (I32 ∷ reverse params ++ t.others) vs → HaveTypes params (reverse (take (length params) (drop 1 vs)))
+      under [] h = absurd h
+      under (v ∷ vs) h = taken_values params t.others vs h.1

@@ -1,5 +1,5 @@
 -- Numeric and memory instructions are kept: they take the operands of their operator's types, and give numbers of its result's.
-use Rattle.std.proofs.Common.{◌≡◌, ℕ, ◌+◌, Bool, true, false, cond, eqb, List, [], ◌∷◌, length, Option, option_to_list, Result, Ok, Err, sym}
+use Rattle.std.proofs.Common.{ℕ, ◌+◌, Bool, true, false, cond, eqb, List, [], ◌∷◌, Result, Ok, Err, refl}
 use Rattle.linear_memory.specs.LinearMemory.{LinearMemory, grown}
 use Rattle.linear_memory.specs.Accesses.{number_at, with_number}
 use Rattle.int_ops.specs.declared.trap.Cause.{Cause}
@@ -18,15 +18,15 @@ use Rattle.wasm_ast.specs.declared.module.Module.{Module}
 use Rattle.wasm_ast.specs.Operators.{access_operands, access_results, form_type, load_type, numeric_operands, numeric_result, value_type}
 use Rattle.wasm_ast.specs.Sequence.{Sequence}
 use Rattle.wasm_numeric.specs.Numeric.{binary_value, bits, compare_value, convert_value, test_value, unary_value}
-use Rattle.guest_state.specs.Fits.{HasType, HaveTypes, IsAnsweredBy}
+use Rattle.guest_state.specs.Fits.{HasType}
 use Rattle.wasm_steps.specs.Atomic.{gives_old, operator_of, stands, wait_width}
-use Rattle.wasm_steps.specs.Kept.{IsMemory}
+use Rattle.wasm_steps.specs.Kept.{AtAccess, IsMemory, Keeps}
 use Rattle.wasm_steps.specs.Memory.{form_width, gives_loaded, leaves_memory, load_width, step_grow}
 use Rattle.wasm_steps.specs.Numeric.{step_numeric, step_one, step_two}
 use Rattle.wasm_steps.specs.Step.{step_access}
 use Rattle.wasm_steps.specs.Stepped.{AtNotify, AtWait, Trapped, gives}
 use Rattle.wasm_steps.proofs.Memories.{access_either, atomic_either, grown_is, number_at_below, with_number_is}
-use Rattle.wasm_steps.proofs.Running.{GivesType, Keeps, Running, Takes, gives_kept, kept_either, leaves_kept, as_thread}
+use Rattle.wasm_steps.proofs.Running.{GivesType, Running, Takes, gives_kept, kept_either, leaves_kept, as_thread}
 use Rattle.wasm_steps.proofs.Values.{GivesBelow, binary_below, compare_below, convert_below, form_below, has_int, int_has, load_below, test_below, unary_below}
 
 has_result : (of : IntType) (result : Result ℕ Cause) → GivesBelow (bits of) result → GivesType (value_type of) result
@@ -61,8 +61,7 @@ module _ (m : Module) (r : Running m) (memory : LinearMemory) (is : IsMemory mem
   old_has : (of : Form) (at : ℕ) → HasType (value_type (form_type of)) (number_at memory.bytes at (form_width of))
   old_has of at = has_int (form_type of) _ (form_below of _ (number_at_below memory at (form_width of) is))
 
-  pub access_kept : (op : Access) (offset : ℕ) (rest : Sequence) (operands : List ℕ) → Takes m r rest (access_operands op) (access_results op) operands
-      → ((count : ℕ) (value : Option ℕ) → length (access_operands op) ≡ count → HaveTypes (access_results op) (option_to_list value) → IsAnsweredBy m (as_thread m r) count value) → Keeps m (as_thread m r) (step_access memory (as_thread m r) op offset rest operands)
+  pub access_kept : (op : Access) (offset : ℕ) (rest : Sequence) (operands : List ℕ) → Takes m r rest (access_operands op) (access_results op) operands → AtAccess m (as_thread m r) op → Keeps m (as_thread m r) (step_access memory (as_thread m r) op offset rest operands)
   access_kept (Load op) offset rest [] t stops = absurd t.values
   access_kept (Load op) offset rest (base ∷ left) t stops =
       let of = value_type (load_type op) in
@@ -78,13 +77,13 @@ module _ (m : Module) (r : Running m) (memory : LinearMemory) (is : IsMemory mem
       (λ cause. tt)
   access_kept Notify offset rest [] t stops = absurd t.values
   access_kept Notify offset rest (count ∷ []) t stops = absurd t.values.1
-  access_kept Notify offset rest (count ∷ base ∷ left) t stops = atomic_either (λ x. Keeps m (as_thread m r) (stands x)) memory (base + offset) 4 (AtNotify (base + offset)) (λ within count' value answer. stops count' value (sym answer.0) answer.1) (λ cause. tt)
+  access_kept Notify offset rest (count ∷ base ∷ left) t stops = atomic_either (λ x. Keeps m (as_thread m r) (stands x)) memory (base + offset) 4 (AtNotify (base + offset)) (λ within. stops) (λ cause. tt)
   access_kept (Wait of) offset rest [] t stops = absurd t.values
   access_kept (Wait of) offset rest (timeout ∷ []) t stops = absurd t.values.1
   access_kept (Wait of) offset rest (timeout ∷ expected ∷ []) t stops = absurd t.values.1.1
   access_kept (Wait of) offset rest (timeout ∷ expected ∷ base ∷ left) t stops =
       kept_either m (as_thread m r) memory.shared _ (Trapped NotShared)
-      (λ shared. atomic_either (λ x. Keeps m (as_thread m r) (stands x)) memory (base + offset) (wait_width of) (AtWait (wait_width of) (base + offset)) (λ within count value answer. stops count value (sym answer.0) answer.1) (λ cause. tt))
+      (λ shared. atomic_either (λ x. Keeps m (as_thread m r) (stands x)) memory (base + offset) (wait_width of) (AtWait (wait_width of) (base + offset)) (λ within. (of, refl, stops)) (λ cause. tt))
       (λ own. tt)
   access_kept (AtomicLoad of) offset rest [] t stops = absurd t.values
   access_kept (AtomicLoad of) offset rest (base ∷ left) t stops =

@@ -18,11 +18,11 @@ use Rattle.wasm_ast.specs.Typing.{Operands, after_variable, joined, local_type, 
 use Rattle.wasm_ast.specs.TypingModule.{context_of}
 use Rattle.guest_state.specs.Fits.{HaveTypes, HasType, group_types, local_types, operands_of}
 use Rattle.guest_state.proofs.AnswerLemmas.{Applies, applies, bind_some, if_some, if_true, same_types, some_same, taken_known}
-use Rattle.wasm_steps.specs.Kept.{IsMemory}
+use Rattle.wasm_steps.specs.Kept.{IsMemory, Keeps}
 use Rattle.wasm_steps.specs.Variable.{sets_local, step_drop, step_global_set, step_local_set, step_local_tee, step_select, step_variable}
 use Rattle.wasm_steps.proofs.Calls.{got_behind, is_within}
 use Rattle.wasm_steps.proofs.Operands.{have_at, have_set}
-use Rattle.wasm_steps.proofs.Running.{Behind, Keeps, Running, found, stack, Takes, behind_stands, goes_kept, leaves_kept, pushes_kept, as_thread}
+use Rattle.wasm_steps.proofs.Running.{Behind, Running, found, stack, Takes, behind_stands, goes_kept, leaves_kept, pushes_kept, as_thread}
 
 -- ---- locals
 

@@ -1,5 +1,5 @@
 -- Atomic instructions (threads proposal). What they give is extended by zeros.
-use Rattle.std.specs.Prelude.{ℕ, ◌+◌, ◌%◌, ◌==◌, if◌then◌else◌, List, [], ◌∷◌, Result, Ok, Err}
+use Rattle.std.specs.Prelude.{ℕ, ◌+◌, if◌then◌else◌, List, [], ◌∷◌, Result, Ok, Err}
 use Rattle.int_ops.specs.declared.trap.Cause.{Cause}
 use Rattle.int_ops.specs.declared.trap.Cause.TheVariants.{NotShared}
 use Rattle.int_ops.specs.declared.atomic.AtomicOp.{AtomicOp}

@@ -1,5 +1,5 @@
 -- Control instructions (WebAssembly Core 1.0, 4.4.5 to 4.4.7).
-use Rattle.std.specs.Prelude.{ℕ, ◌+◌, ◌-◌, ◌==◌, nat_lt, nat_le, if◌then◌else◌, List, [], ◌∷◌, ◌++◌, length, slice_get, slice_index_or, Option, Some, None, option_to_list, Result, Ok, Err}
+use Rattle.std.specs.Prelude.{ℕ, ◌+◌, ◌-◌, ◌==◌, nat_lt, nat_le, if◌then◌else◌, List, [], ◌∷◌, length, slice_get, slice_index_or, Option, Some, None, option_to_list, Result, Ok, Err}
 use Rattle.int_ops.specs.declared.trap.Cause.{Cause}
 use Rattle.int_ops.specs.declared.trap.Cause.TheVariants.{UndefinedElement, UninitializedElement, TypeMismatch, StackFull}
 use Rattle.linear_memory.specs.LinearMemory.{LinearMemory}
@@ -8,7 +8,7 @@ use Rattle.wasm_ast.specs.declared.types.FuncType.{FuncType}
 use Rattle.wasm_ast.specs.declared.instr.BlockKind.{BlockKind}
 use Rattle.wasm_ast.specs.declared.instr.BlockKind.TheVariants as kind
 use Rattle.wasm_ast.specs.declared.module.Module.{Module}
-use Rattle.wasm_ast.specs.Sequence.{Sequence, Empty, Plain, Block, If}
+use Rattle.wasm_ast.specs.Sequence.{Sequence, Block}
 use Rattle.wasm_ast.specs.Table.{table_size, last_put, function_type, same_function_type}
 use Rattle.wasm_ast.specs.TypingModule.{functions_of}
 use Rattle.guest_state.specs.GuestThread.{Label, Frame, GuestThread, value_count, label_count, in_frame}

@@ -9,7 +9,7 @@ use Rattle.wasm_ast.specs.Operators.{load_exponent, form_exponent}
 use Rattle.wasm_ast.specs.Sequence.{Sequence}
 use Rattle.wasm_numeric.specs.Numeric.{load_value}
 use Rattle.guest_state.specs.GuestThread.{Frame, GuestThread}
-use Rattle.wasm_steps.specs.Stepped.{Stepped, Next, Trapped, Stuck, leaves, pushes}
+use Rattle.wasm_steps.specs.Stepped.{Stepped, Trapped, Stuck, leaves, pushes}
 
 -- the bytes that a load or a form moves
 abbrev pub load_width : LoadOp → ℕ

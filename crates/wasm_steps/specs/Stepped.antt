@@ -1,5 +1,5 @@
 -- What one step of a guest thread comes to, and the ways in which an instruction goes on.
-use Rattle.std.specs.Prelude.{ℕ, nat_lt, nat_le, ◌+◌, if◌then◌else◌, List, [], ◌∷◌, Result, Ok, Err}
+use Rattle.std.specs.Prelude.{ℕ, nat_lt, if◌then◌else◌, List, ◌∷◌, Result, Ok, Err}
 use Rattle.int_ops.specs.declared.trap.Cause.{Cause}
 use Rattle.int_ops.specs.declared.trap.Cause.TheVariants.{StackFull}
 use Rattle.linear_memory.specs.LinearMemory.{LinearMemory}

@@ -4,8 +4,8 @@ use Rattle.linear_memory.specs.LinearMemory.{LinearMemory}
 use Rattle.wasm_ast.specs.declared.instr.VariableOp.{VariableOp}
 use Rattle.wasm_ast.specs.declared.instr.VariableOp.TheVariants.{LocalGet, LocalSet, LocalTee, GlobalGet, GlobalSet}
 use Rattle.wasm_ast.specs.Sequence.{Sequence}
-use Rattle.guest_state.specs.GuestThread.{Frame, GuestThread, in_frame}
-use Rattle.wasm_steps.specs.Stepped.{Stepped, Next, Stuck, goes, leaves, pushes}
+use Rattle.guest_state.specs.GuestThread.{Frame, GuestThread}
+use Rattle.wasm_steps.specs.Stepped.{Stepped, Stuck, goes, leaves, pushes}
 
 abbrev pub step_drop : LinearMemory → GuestThread → Sequence → List ℕ → Stepped
 step_drop memory thread rest [] = Stuck

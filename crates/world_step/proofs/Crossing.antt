@@ -3,6 +3,7 @@ use Rattle.std.proofs.Common.{◌≡◌, ℕ, true, false, Bool, [], Option, Som
 use Rattle.std.specs.Prelude.{if◌then◌else◌, ◌==◌, ◌||◌}
 use Rattle.std.specs.Option.{option_and_then, option_map}
 use Rattle.std.specs.FinMap.{get, insert, nat_cmp-IsAntisymmetric}
+use Rattle.std.proofs.lemmas.Bool.{eqb-false, eqb-true, or_right}
 use Rattle.std.proofs.lemmas.Cmp.{nat_cmp_total}
 use Rattle.fork_exec.specs.Process.{Process}
 use Rattle.kernel_ask.specs.Answer.{Answer}
@@ -18,7 +19,7 @@ use Rattle.process.specs.Apply.{made_by, new_arguments, apply, after_outcome, ma
 use Rattle.process.specs.Lineage.{Told, makes, is_on_line, after_told, after_answer, answer_of, made_process}
 use Rattle.process.specs.Processes.{Processes, with_made}
 use Rattle.process.specs.Replied.{signalled}
-use Rattle.process.proofs.Made.{mapped_from, same_number, other_number, makes_made, asked_steps}
+use Rattle.process.proofs.Made.{mapped_from, makes_made, asked_steps}
 use Rattle.wasix_abi.specs.Requests.{plain_request}
 use Rattle.instance.specs.Calls.{no_call}
 use Rattle.wx_types.specs.declared.entries.Entry.{Entry}
@@ -33,7 +34,7 @@ use Rattle.world_step.proofs.Lines.{before_turn}
 
 other_made : (m : Processes) (number q : ℕ) (found : Option Process) → (number == q) ≡ false → get (with_made m (option_map (λ (p : Process). (number, p)) found)) q ≡ get m q
 other_made m number q None e = refl
-other_made m number q (Some new) e = get-insert_other nat_cmp_total nat_cmp-IsAntisymmetric m number new q (other_number number q e)
+other_made m number q (Some new) e = get-insert_other nat_cmp_total nat_cmp-IsAntisymmetric m number new q (λ same. eqb-false number q e (sym same))
 
 makes_other : (m : Processes) (stopped : Process) (tid : ℕ) (request : Request) (program : Option Program) (outcome : Outcome) (q : ℕ) → makes outcome q ≡ false → get (with_made m (made_by stopped tid request program outcome)) q ≡ get m q
 makes_other m stopped tid request program (Reply errno bytes place) q e = refl
@@ -57,10 +58,6 @@ pub data Crossing (world next : World) (turn : Told) (q : ℕ) : Type 0 where
 kept_some : (b : Bool) (found : Option Process) (last : Process) → cond b found None ≡ Some last → found ≡ Some last
 kept_some true found last e = e
 kept_some false found last e = cc
-
-on_by_maker : (a b : Bool) → b ≡ true → (a || b) ≡ true
-on_by_maker true b e = refl
-on_by_maker false b e = e
 
 abbrev told_turn : (world : World) (entry : Entry) → TakesTurn world entry → Told
 told_turn world entry turn = record { entry = entry; request = turn.request; program = turn.answer.program }
@@ -113,17 +110,17 @@ by_caller world next entry turn t q m here last e =
 
 passed_by : (world next : World) (entry : Entry) (turn : TakesTurn world entry) (t : Turned world next entry turn) (q : ℕ) → makes entry.outcome q ≡ false → (entry.pid == q) ≡ false → (last : Process) → get next.processes q ≡ Some last → get world.processes q ≡ Some last
 passed_by world next entry turn t q m apart last e =
-    sym (get-insert_other nat_cmp_total nat_cmp-IsAntisymmetric world.processes entry.pid t.own q (other_number entry.pid q apart))
+    sym (get-insert_other nat_cmp_total nat_cmp-IsAntisymmetric world.processes entry.pid t.own q (λ same. eqb-false entry.pid q apart (sym same)))
     ∙ unmade world next entry turn t q m last e
 
 turn_crosses : (world next : World) (entry : Entry) (turn : TakesTurn world entry) (t : Turned world next entry turn) (q : ℕ) → Crossing world next (told_turn world entry turn) q
 turn_crosses world next entry turn t q =
     let stop : IsStop world.slice turn.process (told_turn world entry turn) = record { stopped = turn.stopped; asks = turn.asks; call = turn.call } in
     elim (makes entry.outcome q) as (λ b. makes entry.outcome q ≡ b → Crossing world next (told_turn world entry turn) q) [
-      | true ↦ λ m. Alive turn.process (ap (λ b. get world.processes (if b then entry.pid else q)) m ∙ turn.there) (on_by_maker _ _ m) stop (by_maker world next entry turn t q m)
+      | true ↦ λ m. Alive turn.process (ap (λ b. get world.processes (if b then entry.pid else q)) m ∙ turn.there) (or_right _ _ m) stop (by_maker world next entry turn t q m)
       | false ↦ λ m. elim (entry.pid == q) as (λ b. (entry.pid == q) ≡ b → Crossing world next (told_turn world entry turn) q) [
         | true ↦ λ here.
-            let same = same_number entry.pid q here in
+            let same = eqb-true entry.pid q here in
             Alive turn.process (ap (λ b. get world.processes (if b then entry.pid else q)) m ∙ ap (get world.processes) (sym same) ∙ turn.there)
             (ap (λ b. b || makes entry.outcome q) here) stop (by_caller world next entry turn t q m same)
         | false ↦ λ apart. Passed (ap (λ b. b || makes entry.outcome q) apart ∙ m) (passed_by world next entry turn t q m apart)
@@ -139,7 +136,7 @@ gone_crosses world next entry gone same dead q =
     let over : get world.processes entry.pid ≡ None = dead entry.pid entry.tid gone.doomed in
     elim (entry.pid == q) as (λ b. (entry.pid == q) ≡ b → Crossing world next (told_gone entry) q) [
       | true ↦ λ here.
-          let at_q : get world.processes q ≡ None = ap (get world.processes) (sym (same_number entry.pid q here)) ∙ over in
+          let at_q : get world.processes q ≡ None = ap (get world.processes) (sym (eqb-true entry.pid q here)) ∙ over in
           Dead (ap (λ b. get world.processes (if b then entry.pid else q)) none ∙ at_q) (ap (λ b. b || makes entry.outcome q) here) gone.tells
           (ap (λ (m : Processes). get m q) same ∙ at_q)
       | false ↦ λ apart. Passed (ap (λ b. b || makes entry.outcome q) apart ∙ none) (λ last e. ap (λ (m : Processes). get m q) (sym same) ∙ e)

@@ -1,8 +1,9 @@
 -- The file of a tree that has one file is at its path.
-use Rattle.std.proofs.Common.{◌≡◌, ◌<◌, ℕ, zero, suc, Bool, true, false, arith, List, [], ◌∷◌, Some, Ok, refl, ap, ◌∙◌}
-use Rattle.std.specs.Prelude.{codes, nat_lt, ◌&&◌}
+use Rattle.std.proofs.Common.{◌≡◌, ℕ, zero, suc, true, false, arith, List, [], ◌∷◌, Some, Ok, refl, ap, ◌∙◌}
+use Rattle.std.specs.Prelude.{codes, nat_lt}
 use Rattle.std.specs.List.{list_all}
 use Rattle.std.specs.Str.{IsAscii, is_utf8}
+use Rattle.std.proofs.lemmas.Bool.{and_parts, ltb-true}
 use Rattle.std.proofs.lemmas.Str.{IsUtf8-from_ascii, is_utf8-from_IsUtf8}
 use Rattle.tree_nodes.specs.Names.{NameMap}
 use Rattle.std.specs.FinMap.{get, insert, empty, get-insert}
@@ -16,14 +17,6 @@ use Rattle.tree_nodes.specs.Nodes.{replaced, with_change, naming, named}
 use Rattle.world_step.specs.Boot.{one_file}
 use Rattle.world_step.specs.Laws.{OneFileIsThere}
 
-first : (a b : Bool) → (a && b) ≡ true → a ≡ true
-first true b e = refl
-first false b e = cc
-
-rest : (a b : Bool) → (a && b) ≡ true → b ≡ true
-rest true b e = e
-rest false b e = cc
-
 abbrev name : List ℕ
 name = codes "program"
 
@@ -31,13 +24,10 @@ abbrev parts : PathParts
 parts = record { absolute = true; must_dir = false; last_dot = false; names = name ∷ [] }
 
 -- ASCII is UTF-8
-small : (b : ℕ) → nat_lt b 128 ≡ true → b < 128
-small b e = grind (arith)
-
 ascii : (bytes : List ℕ) → list_all (λ b. nat_lt b 128) bytes ≡ true → IsAscii bytes
 ascii [] all i = omega arith
-ascii (b ∷ bytes) all zero = small b (first (nat_lt b 128) _ all)
-ascii (b ∷ bytes) all (suc i) = ascii bytes (rest (nat_lt b 128) _ all) i
+ascii (b ∷ bytes) all zero = ltb-true b 128 (and_parts (nat_lt b 128) _ all).0
+ascii (b ∷ bytes) all (suc i) = ascii bytes (and_parts (nat_lt b 128) _ all).1 i
 
 is_text : is_utf8 (codes "/program") ≡ true
 is_text = is_utf8-from_IsUtf8 (codes "/program") (IsUtf8-from_ascii (codes "/program") (ascii (codes "/program") refl))

@@ -4,7 +4,6 @@ pub mod Weight
 pub mod Boot
 pub mod Run
 pub mod Stops
-pub mod Written
 pub mod Pipes
 pub mod Journal
 pub mod Laws
