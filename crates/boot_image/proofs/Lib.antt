@@ -1,15 +1,7 @@
-pub mod Lengths
-pub mod Items
-pub mod Remaining
 pub mod PlainPaths
-pub mod Making
-pub mod Finding
-pub mod Contents
+pub mod Items
 pub mod Under
-pub mod Splitting
+pub mod Remaining
 pub mod PathsOf
 pub mod Growing
-pub mod Counting
 pub mod RoundTrip
-pub mod ShortPaths
-pub mod Once

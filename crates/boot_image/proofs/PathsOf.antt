@@ -1,31 +1,80 @@
--- The paths of a tree are those of the nodes that names lead to.
-use Rattle.std.proofs.Common.{◌≡◌, ℕ, zero, suc, ◌≤◌, cond, List, [], ◌∷◌, ◌++◌, length, map, Some, Ordering, Less, Equal, Greater, nat_cmp, is_eq, Result, Ok, Err, flat_map, option_and_then, refl, sym, ap, subst, ◌∙◌, ◌⊎◌, inl, inr, arith, append_assoc, append-nil}
-use Rattle.std.specs.Cmp.{tied_itself}
-use Rattle.std.specs.Cmp.Lexicographic.{slice_cmp, nat_list_cmp_total}
-use Rattle.std.specs.FinMap.{find, get, insert, empty, entries, get-entries, get-empty, slice_cmp-IsAntisymmetric, nat_cmp-IsAntisymmetric}
-use Rattle.std.specs.List.{AllByRecursion}
-use Rattle.std.specs.List.Sorted.{IsStrictlySortedBy}
-use Rattle.std.specs.Map.{keys_of}
+-- The paths of a tree, found one after another, are those of the nodes that names lead to.
+use Rattle.std.proofs.Common.{◌≡◌, ℕ, zero, suc, ◌+◌, ◌-◌, ◌<◌, List, [], ◌∷◌, ◌++◌, length, drop, get_or, refl, sym, ap, ◌∙◌, drop-cons, add-one, arith, Ok, Err, ◌≤◌, Some, cond, nat_cmp, map, Ordering, Less, Equal, Greater, is_eq, Result, flat_map, option_and_then, subst, ◌⊎◌, inl, inr, append_assoc, append-nil}
+use Rattle.std.proofs.Math.ListN.{drop_of_length-le}
+use Rattle.std.proofs.lemmas.List.{nil_from_length}
 use Rattle.std.specs.Result.{result_unwrap_or}
+use Rattle.std.specs.List.{flat_map, AllByRecursion}
 use Rattle.std.proofs.lemmas.List.Concat.{flat_map-cons}
+use Rattle.std.specs.BTreeMap.{is_at}
+use Rattle.std.specs.Cmp.Lexicographic.{slice_cmp, nat_list_cmp_total}
+use Rattle.std.specs.FinMap.{insert, entries, from_entries, slice_cmp-IsAntisymmetric, nat_cmp-IsAntisymmetric, find, get, empty, get-entries, get-empty}
+use Rattle.std.specs.List.Sorted.{IsStrictlySortedBy}
+use Rattle.std.specs.Map.{lookup, keys_of}
+use Rattle.std.specs.Cmp.{tied_itself}
 use Rattle.std.specs.Option.{ok_or}
 use Rattle.wx_types.specs.declared.errors.Errno.{Errno}
 use Rattle.wx_types.specs.declared.errors.Errno.TheVariants.{Noent}
 use Rattle.tree_nodes.specs.Names.{NameMap}
-use Rattle.tree_nodes.proofs.MapLemmas.{put_at, put_off, entries_rise}
+use Rattle.tree_nodes.proofs.MapLemmas.{inserted, entries_of_sorted, put_at, put_off, entries_rise}
+use Rattle.file_tree.specs.Listings.{list, listed}
 use Rattle.file_tree.specs.FileTree.{FileTree, root}
-use Rattle.file_tree.specs.Listings.{listed}
+use Rattle.file_tree.specs.declared.listing.Listed.{Listed}
 use Rattle.file_tree.specs.Walk.{and_then, names_at, names_of}
 use Rattle.file_tree.specs.Trees.{target, target_of, target_in, node_under}
-use Rattle.file_tree.specs.declared.listing.Listed.{Listed}
 use Rattle.file_tree.proofs.Links.{some_is, same_name}
 use Rattle.file_tree.proofs.TreeLemmas.{leads_to}
 use Rattle.file_tree.proofs.Ends.{dir_found}
+use Rattle.boot_image.specs.Written.{below, with_paths, path_in, names_in, paths_of}
 use Rattle.boot_image.specs.Image.{joined}
-use Rattle.boot_image.specs.Written.{names_in, path_in, below, with_paths, paths_of}
-use Rattle.boot_image.proofs.Finding.{here}
-use Rattle.boot_image.proofs.Splitting.{joined_then}
+use Rattle.boot_image.proofs.PlainPaths.{joined_then}
 use Rattle.boot_image.proofs.Under.{chain}
+
+with_paths-append : (paths : NameMap) (a b : List (List ℕ × ℕ)) → with_paths paths (a ++ b) ≡ with_paths (with_paths paths a) b
+unfolding with_paths
+with_paths-append paths [] b = refl
+with_paths-append paths (found ∷ a) b = with_paths-append (insert paths found.0 found.1) a b
+
+-- a name's path, and those below it
+abbrev pub here : ℕ → FileTree → List ℕ → Listed → List (List ℕ × ℕ)
+here levels tree path listed = (path_in path listed.name, listed.node) ∷ below levels tree (path_in path listed.name) listed.node
+
+pub below_is : (levels : ℕ) (tree : FileTree) (path : List ℕ) (dir : ℕ) → 0 < levels → below levels tree path dir ≡ flat_map (here (levels - 1) tree path) (names_in tree dir)
+unfolding below
+below_is zero tree path dir some = absurd (omega arith)
+below_is (suc levels) tree path dir some = let e : levels ≡ suc levels - 1 = omega arith in ap (λ n. flat_map (here n tree path) (names_in tree dir)) e
+
+-- a name's path and those below it were put to the others
+pub one_found : (levels : ℕ) (tree : FileTree) (path : List ℕ) (listing : List Listed) (i : ℕ) (listed : Listed) (child inside : List ℕ) (paths with_child after all : NameMap) → i < length listing → listed ≡ get_or listing i listed
+    → child ≡ path_in path listed.name → inside ≡ path_in path listed.name → with_child ≡ insert paths child listed.node → after ≡ with_paths with_child (below levels tree inside listed.node)
+    → with_paths paths (flat_map (here levels tree path) (drop i listing)) ≡ all → with_paths after (flat_map (here levels tree path) (drop (i + 1) listing)) ≡ all
+unfolding with_paths
+one_found levels tree path listing i listed child inside paths with_child after all lt is child-is inside-is put found so_far =
+    let rest : List Listed = drop (i + 1) listing in
+    let next : drop i listing ≡ listed ∷ rest = drop-cons listing i listed lt ∙ ap (λ (l : Listed). l ∷ drop (suc i) listing) (sym is) ∙ ap (λ k. listed ∷ drop k listing) (sym (add-one i)) in
+    let parts = flat_map-cons (here levels tree path) listed rest in
+    let two = with_paths-append paths (here levels tree path listed) (flat_map (here levels tree path) rest) in
+    cc
+
+module _ (levels : ℕ) (tree : FileTree) (path : List ℕ) (dir : ℕ) (found : NameMap) (some : 0 < levels) where
+  -- where all names of a directory were gone through
+  pub all_found : (listing items : List Listed) (i : ℕ) (now : NameMap) → list tree dir ≡ Ok listing → items ≡ listing → length items ≤ i
+      → with_paths now (flat_map (here (levels - 1) tree path) (drop i items)) ≡ with_paths found (flat_map (here (levels - 1) tree path) items) → now ≡ with_paths found (below levels tree path dir)
+  unfolding with_paths
+  all_found listing items i now e is past so_far =
+      sym (ap (λ (l : List Listed). with_paths now (flat_map (here (levels - 1) tree path) l)) (drop_of_length-le items past))
+      ∙ so_far
+      ∙ sym (ap (with_paths found) (below_is levels tree path dir some ∙ ap (λ r. flat_map (here (levels - 1) tree path) (result_unwrap_or r [])) e ∙ ap (flat_map (here (levels - 1) tree path)) (sym is)))
+
+-- ---- paths as a map's entries
+
+pub path_put : (es fs : List (List ℕ × ℕ)) (path : List ℕ) (node : ℕ) → ((q : List ℕ) → lookup (is_at (slice_cmp nat_cmp q)) fs ≡ cond (is_at (slice_cmp nat_cmp path) q) (Some node) (lookup (is_at (slice_cmp nat_cmp q)) es)) → from_entries {R = slice_cmp nat_cmp} fs ≡ insert (from_entries es) path node
+path_put = inserted nat_list_cmp_total (slice_cmp-IsAntisymmetric nat_cmp-IsAntisymmetric)
+
+pub paths_sorted : (es : List (List ℕ × ℕ)) → IsStrictlySortedBy (slice_cmp nat_cmp) (keys_of es) → entries (from_entries {R = slice_cmp nat_cmp} es) ≡ es
+paths_sorted = entries_of_sorted nat_list_cmp_total
+
+pub no_paths : (es : List (List ℕ × ℕ)) (n : ℕ) → IsStrictlySortedBy (slice_cmp nat_cmp) (keys_of es) → n ≡ length es → n ≡ 0 → entries (from_entries {R = slice_cmp nat_cmp} es) ≡ []
+no_paths es n sorted len none = paths_sorted es sorted ∙ nil_from_length es (sym len ∙ none)
 
 -- ---- what stands in a list
 

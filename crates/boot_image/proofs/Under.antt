@@ -22,11 +22,11 @@ ending (x ∷ xs) = more (ending xs)
     more (none e) = some [] x (ap (λ l. x ∷ l) e)
     more (some front last e) = some (x ∷ front) last (ap (λ l. x ∷ l) e)
 
-pub shorter : (xs front : List (List ℕ)) (last : List ℕ) → xs ≡ front ++ last ∷ [] → length xs ≡ length front + 1
+shorter : (xs front : List (List ℕ)) (last : List ℕ) → xs ≡ front ++ last ∷ [] → length xs ≡ length front + 1
 shorter xs front last e = ap length e ∙ length-append front (last ∷ [])
 
 module _ (nodes : NodeMap) where
-  pub under_more : (dir : ℕ) (a b : List (List ℕ)) → node_under nodes dir (a ++ b) ≡ option_and_then (λ d. node_under nodes d b) (node_under nodes dir a)
+  under_more : (dir : ℕ) (a b : List (List ℕ)) → node_under nodes dir (a ++ b) ≡ option_and_then (λ d. node_under nodes d b) (node_under nodes dir a)
   under_more dir [] b = refl
   under_more dir (x ∷ a) b =
       elim (target nodes dir x) as (λ o. option_and_then (λ d. node_under nodes d (a ++ b)) o ≡ option_and_then (λ d. node_under nodes d b) (option_and_then (λ d. node_under nodes d a) o)) [
@@ -34,14 +34,12 @@ module _ (nodes : NodeMap) where
         | Some d ↦ under_more d a b
       ]
 
-  last_name : (d n : ℕ) (name : List ℕ) → node_under nodes d (name ∷ []) ≡ Some n → target nodes d name ≡ Some n
-  last_name d n name e = let t = chain (target nodes d name) (λ (m : ℕ). Some m) n e in t.1 ∙ t.2
-
   -- the directory of the last name
   pub under_last : (dir n : ℕ) (front : List (List ℕ)) (name : List ℕ) → node_under nodes dir (front ++ name ∷ []) ≡ Some n → (d : ℕ) × (node_under nodes dir front ≡ Some d) × (target nodes d name ≡ Some n)
   under_last dir n front name e =
       let t = chain (node_under nodes dir front) (λ d. node_under nodes d (name ∷ [])) n (sym (under_more dir front (name ∷ [])) ∙ e) in
-      (t.0, t.1, last_name t.0 n name t.2)
+      let u = chain (target nodes t.0 name) (λ (m : ℕ). Some m) n t.2 in
+      (t.0, t.1, u.1 ∙ u.2)
 
   pub under_then : (dir d n : ℕ) (front : List (List ℕ)) (name : List ℕ) → node_under nodes dir front ≡ Some d → target nodes d name ≡ Some n → node_under nodes dir (front ++ name ∷ []) ≡ Some n
   under_then dir d n front name e f =
@@ -54,23 +52,23 @@ module _ (nodes : NodeMap) where
         let t = chain (target nodes dir name) (λ d. node_under nodes d names) n e in
         ((tree.links.named dir t.0 name t.1).good, under_good t.0 n names t.2)
 
-    never_root : (names front : List (List ℕ)) (last : List ℕ) (n : ℕ) → names ≡ front ++ last ∷ [] → node_under nodes root names ≡ Some n → n ≡ root → ⊥
-    never_root names front last n is e =
-        let t = under_last root n front last (sym (ap (node_under nodes root) is) ∙ e) in
-        (tree.links.named t.0 n last t.2).below
+    -- what a node is named by is there
+    pub under_linked : (dir up n : ℕ) (names : List (List ℕ)) → parent_of nodes dir ≡ Some up → node_under nodes dir names ≡ Some n → (above : ℕ) × (parent_of nodes n ≡ Some above)
+    under_linked dir up n [] linked e = (up, ap (parent_of nodes) (sym (some_is dir n e)) ∙ linked)
+    under_linked dir up n (name ∷ names) linked e =
+        let t = chain (target nodes dir name) (λ d. node_under nodes d names) n e in
+        under_linked t.0 dir n names (tree.links.named dir t.0 name t.1).above t.2
 
-    pub not_root : (n : ℕ) (name : List ℕ) (names : List (List ℕ)) → node_under nodes root (name ∷ names) ≡ Some n → n ≡ root → ⊥
-    not_root n name names e = by (ending (name ∷ names))
-      where
-        by : Ending (name ∷ names) → n ≡ root → ⊥
-        by (none is) = absurd (let never : ⊥ = cc in never)
-        by (some front last is) = never_root (name ∷ names) front last n is e
+    never_root : (names front : List (List ℕ)) (last : List ℕ) → names ≡ front ++ last ∷ [] → node_under nodes root names ≡ Some root → ⊥
+    never_root names front last is e =
+        let t = under_last root root front last (sym (ap (node_under nodes root) is) ∙ e) in
+        (tree.links.named t.0 root last t.2).below refl
 
     -- one list of names leads to a node
     once_within : (most : ℕ) (a b : List (List ℕ)) (n : ℕ) → length a ≤ most → node_under nodes root a ≡ Some n → node_under nodes root b ≡ Some n → Ending a → Ending b → a ≡ b
     once_within most a b n le e f (none x) (none y) = x ∙ sym y
-    once_within most a b n le e f (none x) (some front last y) = absurd (never_root b front last n y f (sym (some_is root n (sym (ap (node_under nodes root) x) ∙ e))))
-    once_within most a b n le e f (some front last x) (none y) = absurd (never_root a front last n x e (sym (some_is root n (sym (ap (node_under nodes root) y) ∙ f))))
+    once_within most a b n le e f (none x) (some front last y) = absurd (never_root b front last y (f ∙ sym e ∙ ap (node_under nodes root) x))
+    once_within most a b n le e f (some front last x) (none y) = absurd (never_root a front last x (e ∙ sym f ∙ ap (node_under nodes root) y))
     once_within zero a b n le e f (some front last x) (some front2 last2 y) = absurd (omega (arith, le, shorter a front last x))
     once_within (suc most) a b n le e f (some front last x) (some front2 last2 y) =
         let s = under_last root n front last (sym (ap (node_under nodes root) x) ∙ e) in
@@ -83,54 +81,36 @@ module _ (nodes : NodeMap) where
     pub under_once : (a b : List (List ℕ)) (n : ℕ) → node_under nodes root a ≡ Some n → node_under nodes root b ≡ Some n → a ≡ b
     under_once a b n e f = once_within (length a) a b n (omega arith) e f (ending a) (ending b)
 
-    -- what a node is named by is there
-    pub under_linked : (n : ℕ) (names : List (List ℕ)) → node_under nodes root names ≡ Some n → (up : ℕ) × (parent_of nodes n ≡ Some up)
-    under_linked n names e = by (ending names)
-      where
-        by : Ending names → (up : ℕ) × (parent_of nodes n ≡ Some up)
-        by (none is) = (root, ap (parent_of nodes) (sym (some_is root n (sym (ap (node_under nodes root) is) ∙ e))) ∙ tree.links.top)
-        by (some front last is) =
-            let t = under_last root n front last (sym (ap (node_under nodes root) is) ∙ e) in
-            (t.0, (tree.links.named t.0 n last t.2).above)
-
--- ---- one name more
-
+-- one name more, which leads to a node without names
 module _ (nodes new : NodeMap) (fresh dir : ℕ) (name : List ℕ) (free : target nodes dir name ≡ None) (at : target new dir name ≡ Some fresh) (off : (d : ℕ) (n : List ℕ) → (IsPlace dir name d n → ⊥) → target new d n ≡ target nodes d n)
     (no_names : (n : List ℕ) → target new fresh n ≡ None) where
-  pub still : (from n : ℕ) (names : List (List ℕ)) → node_under nodes from names ≡ Some n → node_under new from names ≡ Some n
-  still from n [] e = e
-  still from n (x ∷ names) e =
-      let t = chain (target nodes from x) (λ d. node_under nodes d names) n e in
-      let same = off from x (λ place. none_never (target nodes dir name) t.0 free (sym (ap (target nodes dir) place.1) ∙ sym (ap (λ d. target nodes d x) place.0) ∙ t.1)) in
-      ap (option_and_then (λ d. node_under new d names)) (same ∙ t.1) ∙ still t.0 n names t.2
+  -- the name behind the names that lead to its directory leads to the node
+  pub under_new : (from : ℕ) (front : List (List ℕ)) → node_under nodes from front ≡ Some dir → node_under new from (front ++ name ∷ []) ≡ Some fresh
+  under_new from [] e = ap (λ d. node_under new d (name ∷ [])) (some_is from dir e) ∙ ap (option_and_then (λ (m : ℕ). Some m)) at
+  under_new from (x ∷ front) e =
+      let t = chain (target nodes from x) (λ d. node_under nodes d front) dir e in
+      let other = off from x (λ place. none_never (target nodes dir name) t.0 free ((λ i. target nodes (sym place.0 i) (sym place.1 i)) ∙ t.1)) in
+      ap (option_and_then (λ d. node_under new d (front ++ name ∷ []))) (other ∙ t.1) ∙ under_new t.0 front t.2
 
-  pub data Found (from n : ℕ) (names : List (List ℕ)) : Type 0 where
-    before : node_under nodes from names ≡ Some n → Found from n names
-    added : (front : List (List ℕ)) → names ≡ front ++ name ∷ [] → node_under nodes from front ≡ Some dir → n ≡ fresh → Found from n names
-
-  pub found : (from n : ℕ) (names : List (List ℕ)) → node_under new from names ≡ Some n → Found from n names
-  found from n [] e = before e
-  found from n (x ∷ names) e =
-      let t = chain (target new from x) (λ d. node_under new d names) n e in
-      by t.0 t.1 t.2 (found t.0 n names) (same_place dir name from x)
+  -- other names lead where they led
+  pub under_old : (from : ℕ) (names : List (List ℕ)) → ((front : List (List ℕ)) × (names ≡ front ++ name ∷ []) × (node_under nodes from front ≡ Some dir)) ⊎ (node_under new from names ≡ node_under nodes from names)
+  under_old from [] = inr refl
+  under_old from (x ∷ names) =
+      elim (same_place dir name from x) [
+        | inl place ↦ last names place
+        | inr other ↦
+            elim (target nodes from x) as (λ o. target nodes from x ≡ o → ((front : List (List ℕ)) × (x ∷ names ≡ front ++ name ∷ []) × (node_under nodes from front ≡ Some dir)) ⊎ (node_under new from (x ∷ names) ≡ node_under nodes from (x ∷ names))) [
+              | None ↦ λ e. inr (ap (option_and_then (λ d. node_under new d names)) (off from x other ∙ e) ∙ sym (ap (option_and_then (λ d. node_under nodes d names)) e))
+              | Some t ↦ λ e.
+                  elim (under_old t names) [
+                    | inl f ↦ inl (x ∷ f.0, ap (λ l. x ∷ l) f.1, ap (option_and_then (λ d. node_under nodes d f.0)) e ∙ f.2)
+                    | inr same ↦ inr (ap (option_and_then (λ d. node_under new d names)) (off from x other ∙ e) ∙ same ∙ sym (ap (option_and_then (λ d. node_under nodes d names)) e))
+                  ]
+            ] refl
+      ]
     where
-      later : (d : ℕ) → target nodes from x ≡ Some d → Found d n names → Found from n (x ∷ names)
-      later d is (before f) = before (ap (option_and_then (λ m. node_under nodes m names)) is ∙ f)
-      later d is (added front names-is f fresh-is) = added (x ∷ front) (ap (λ l. x ∷ l) names-is) (ap (option_and_then (λ m. node_under nodes m front)) is ∙ f) fresh-is
-
-      only : (d : ℕ) (names : List (List ℕ)) → d ≡ fresh → node_under new d names ≡ Some n → names ≡ []
-      only d [] is f = refl
-      only d (y ∷ names) is f =
-          let t = chain (target new d y) (λ m. node_under new m names) n f in
-          absurd (none_never (target new fresh y) t.0 (no_names y) (sym (ap (λ m. target new m y) is) ∙ t.1))
-
-      here : (d : ℕ) → d ≡ fresh → names ≡ [] → node_under new d names ≡ Some n → IsPlace dir name from x → Found from n (x ∷ names)
-      here d is ended f place =
-          let last : d ≡ n = some_is d n (sym (ap (node_under new d) ended) ∙ f) in
-          added [] ((λ i. place.1 i ∷ ended i)) (ap Some place.0) (sym last ∙ is)
-
-      by : (d : ℕ) → target new from x ≡ Some d → node_under new d names ≡ Some n → (node_under new d names ≡ Some n → Found d n names) → (IsPlace dir name from x ⊎ (IsPlace dir name from x → ⊥)) → Found from n (x ∷ names)
-      by d is f more (inl place) =
-          let fresh-is : d ≡ fresh = same_found (target new dir name) d fresh (sym (ap (target new dir) place.1) ∙ sym (ap (λ m. target new m x) place.0) ∙ is) at in
-          here d fresh-is (only d names fresh-is f) f place
-      by d is f more (inr other) = later d (sym (off from x other) ∙ is) (more f)
+      last : (rest : List (List ℕ)) → IsPlace dir name from x → ((front : List (List ℕ)) × (x ∷ rest ≡ front ++ name ∷ []) × (node_under nodes from front ≡ Some dir)) ⊎ (node_under new from (x ∷ rest) ≡ node_under nodes from (x ∷ rest))
+      last [] place = inl ([], ap (λ n. n ∷ []) place.1, ap Some place.0)
+      last (y ∷ rest) place =
+          inr (ap (option_and_then (λ d. node_under new d (y ∷ rest))) ((λ i. target new (place.0 i) (place.1 i)) ∙ at) ∙ ap (option_and_then (λ d. node_under new d rest)) (no_names y)
+          ∙ sym (ap (option_and_then (λ d. node_under nodes d (y ∷ rest))) ((λ i. target nodes (place.0 i) (place.1 i)) ∙ free)))

@@ -6,13 +6,7 @@ use Rattle.wx_types.specs.declared.errors.Refusal.TheVariants.{Errno as refused,
 use Rattle.boot_image.specs.declared.fault.ImageFault.{ImageFault}
 use Rattle.boot_image.specs.declared.fault.ImageFault.TheVariants.{NotImage, Memory}
 
--- the answer is what is given; where nothing is given it is refused; where memory runs out nothing is said
-abbrev pub IsGiven : {X : Type 0} → Option X → Result X ImageFault → Type 0
-IsGiven given (Ok x) = given ≡ Some x
-IsGiven given (Err NotImage) = given ≡ None
-IsGiven given (Err Memory) = Unit {0}
-
--- the same of a call that changes a tree
+-- a call that changes a tree leaves what is given; where nothing is given it is refused; where memory runs out nothing is said
 abbrev pub IsLeft : Option FileTree → FileTree → Result (Unit {0}) ImageFault → Type 0
 IsLeft given new (Ok x) = given ≡ Some new
 IsLeft given new (Err NotImage) = given ≡ None

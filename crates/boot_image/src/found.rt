@@ -35,6 +35,7 @@ impl FoundPaths {
     }
 
     /// Lets the path name the node. `AllocError` is want of memory and nothing else.
+    #[tactic(auto, using(crate::proofs::PathsOf::path_put))]
     pub fn insert(&mut self, path: Name, node: u32) -> Result<(), AllocError>
         ensures { OnOk result (self.new ≡ insert self.old path node) }
     {
@@ -43,6 +44,7 @@ impl FoundPaths {
     }
 
     /// Takes the first path out. No memory is taken.
+    #[tactic(auto, using(crate::proofs::PathsOf::paths_sorted, crate::proofs::PathsOf::no_paths))]
     pub fn take_first(&mut self) -> Option<(Name, u32)>
         ensures { MatchOption result (entries self.old ≡ []) (λ first. entries self.old ≡ first ∷ entries self.new) }
     {

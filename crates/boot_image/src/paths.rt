@@ -8,10 +8,7 @@ use path_walk::{Parts, split};
 pub(crate) fn without<'a>(bytes: &'a [u8], front: &[u8]) -> Option<&'a [u8]>
     ensures { MatchOption result ((rest : List ℕ) → bytes.now ≡ front.now ++ rest → ⊥) (λ rest. bytes.now ≡ front.now ++ rest.now) }
 {
-    match bytes.strip_prefix(front) {
-        Some(rest) => Some(rest),
-        None => None,
-    }
+    bytes.strip_prefix(front)
 }
 
 // the bytes behind a slash and this name, where they begin so
@@ -28,6 +25,7 @@ fn behind<'a>(bytes: &'a [u8], name: &[u8]) -> Option<&'a [u8]>
 }
 
 // whether the path is just its names, and `..` is none of them
+#[tactic(auto, using(crate::proofs::PlainPaths::other_name, crate::proofs::PlainPaths::this_name))]
 fn is_plain(path: &[u8], parts: &Parts<'_>) -> bool
     ensures { result ≡ is_plain path.now parts.now }
 {
@@ -48,6 +46,7 @@ fn is_plain(path: &[u8], parts: &Parts<'_>) -> bool
 /// The parts of a path that an image may have, and `None` where it may not. Such a path is absolute; it has no empty, `.` or
 /// `..` component and no slash at its end; it has at most 1,024 bytes and at most 255 in a component; it is UTF-8 and has no
 /// zero byte. No memory is taken.
+#[tactic(auto, unfolding(crate::specs::Image::plain_parts))]
 pub fn plain_parts(path: &[u8]) -> Option<Parts<'_>>
     ensures { result ≡ plain_parts path.now }
 {

@@ -11,28 +11,26 @@ use crate::reading::{Item, next};
 use byte_cursor::Cursor;
 use file_tree::Tree;
 use std::alloc::Global;
-use wx_types::Refusal;
 
 /// The number of the root.
 const ROOT: u32 = 1;
 
 /// Makes a directory of this path. `NotImage` comes exactly where the path isn't one that an image may have or the tree
 /// refuses it.
+#[tactic(auto, unfolding(crate::specs::Image::with_entry))]
 pub fn make_directory(alloc: Global, tree: &mut Tree, path: &[u8]) -> Result<(), ImageFault>
     ensures { IsLeft (with_entry tree.old (record { path = path.now; content = format.Directory })) tree.new result }
 {
     let Some(parts) = plain_parts(path) else {
         return Err(ImageFault::NotImage);
     };
-    match tree.mkdir(alloc, ROOT, &parts) {
-        Ok(_) => Ok(()),
-        Err(Refusal::Errno(_)) => Err(ImageFault::NotImage),
-        Err(Refusal::Memory) => Err(ImageFault::Memory),
-    }
+    tree.mkdir(alloc, ROOT, &parts)?;
+    Ok(())
 }
 
 /// Makes a file of this path with these bytes. `NotImage` comes exactly where the path isn't one that an image may have or
 /// the tree refuses it or them.
+#[tactic(auto, unfolding(crate::specs::Image::with_entry))]
 pub fn make_file(
     alloc: Global,
     tree: &mut Tree,
@@ -44,16 +42,9 @@ pub fn make_file(
     let Some(parts) = plain_parts(path) else {
         return Err(ImageFault::NotImage);
     };
-    let node = match tree.create(alloc, ROOT, &parts) {
-        Ok(node) => node,
-        Err(Refusal::Errno(_)) => return Err(ImageFault::NotImage),
-        Err(Refusal::Memory) => return Err(ImageFault::Memory),
-    };
-    match tree.write_at(node, 0, bytes) {
-        Ok(()) => Ok(()),
-        Err(Refusal::Errno(_)) => Err(ImageFault::NotImage),
-        Err(Refusal::Memory) => Err(ImageFault::Memory),
-    }
+    let node = tree.create(alloc, ROOT, &parts)?;
+    tree.write_at(node, 0, bytes)?;
+    Ok(())
 }
 
 /// What a step over an image came to.
@@ -69,40 +60,36 @@ enum Step {
 fn make(alloc: Global, tree: &mut Tree, item: Item<'_>) -> Result<Step, ImageFault>
     ensures { Makes (seen item.entry) result tree.old tree.new }
 {
-    let made = match item {
+    match item {
         Item::Last => return Ok(Step::Last),
-        Item::Directory(path) => make_directory(alloc, tree, path),
-        Item::File(path, bytes) => make_file(alloc, tree, path, bytes),
+        Item::Directory(path) => make_directory(alloc, tree, path)?,
+        Item::File(path, bytes) => make_file(alloc, tree, path, bytes)?,
         Item::Other => return Err(ImageFault::NotImage),
-    };
-    match made {
-        Ok(()) => Ok(Step::Entry),
-        Err(fault) => Err(fault),
     }
+    Ok(Step::Entry)
 }
 
 // reads what stands next, and gives the tree what it says
+#[tactic(auto, using(crate::proofs::Remaining::goes, crate::proofs::Remaining::none_where_fault))]
 fn take_next(alloc: Global, tree: &mut Tree, cursor: &mut Cursor<'_>) -> Result<Step, ImageFault>
     requires { IsBytes cursor.old }
     ensures { Goes result cursor.old tree.old cursor.new tree.new }
 {
-    match next(cursor) {
-        Ok(item) => make(alloc, tree, item),
-        Err(_) => Err(ImageFault::NotImage),
-    }
+    let item = next(cursor)?;
+    make(alloc, tree, item)
 }
 
 // the tree with what all entries give, from the bytes behind the magic
+#[tactic(auto, using(crate::proofs::Remaining::fault_means, crate::proofs::Remaining::last_means))]
 fn fill(alloc: Global, tree: Tree, bytes: &[u8]) -> Result<Tree, ImageFault>
     ensures { Means (Remains bytes.now tree) result }
 {
     let mut tree = tree;
     let mut cursor = Cursor::new(bytes);
     'entries: loop {
-        match take_next(alloc, &mut tree, &mut cursor) {
-            Ok(Step::Entry) => {}
-            Ok(Step::Last) => break 'entries,
-            Err(fault) => return Err(fault),
+        match take_next(alloc, &mut tree, &mut cursor)? {
+            Step::Entry => {}
+            Step::Last => break 'entries,
         }
     }
     if cursor.is_empty() {
@@ -114,14 +101,12 @@ fn fill(alloc: Global, tree: Tree, bytes: &[u8]) -> Result<Tree, ImageFault>
 
 /// The tree of an image. `NotImage` comes exactly where the bytes are no image, and `Memory` for want of memory. The bytes are
 /// read once, and a file's bytes are copied once.
+#[tactic(auto, using(crate::proofs::Remaining::image_means))]
 pub fn read_image(alloc: Global, bytes: &[u8]) -> Result<Tree, ImageFault>
     ensures { Means (Image bytes.now) result }
 {
     let Some(rest) = without(bytes, b"WXI1") else {
         return Err(ImageFault::NotImage);
     };
-    match Tree::new(alloc) {
-        Ok(tree) => fill(alloc, tree, rest),
-        Err(_) => Err(ImageFault::Memory),
-    }
+    fill(alloc, Tree::new(alloc)?, rest)
 }

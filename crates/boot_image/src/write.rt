@@ -30,6 +30,7 @@ fn path_in(alloc: Global, path: &[u8], name: &[u8]) -> Result<Name, AllocError>
 }
 
 // puts the paths below a directory, through at most so many directories, to those that were found
+#[tactic(auto, using(crate::proofs::PathsOf::all_found), unfolding(crate::specs::Written::below, crate::specs::Written::with_paths))]
 fn find_below(
     alloc: Global,
     tree: &Tree,
@@ -65,6 +66,7 @@ fn find_below(
 }
 
 // all paths of the tree
+#[tactic(auto, unfolding(crate::specs::Written::paths_of))]
 fn find_all(alloc: Global, tree: &Tree) -> Result<FoundPaths, AllocError>
     ensures { IfOk result (λ found. found ≡ paths_of tree.now) }
 {
@@ -129,6 +131,7 @@ fn put_directory_entry(out: &mut Vec<u8>, path: &[u8]) -> Result<(), AllocError>
 }
 
 // the entry of a node's path
+#[tactic(auto, unfolding(crate::specs::Written::content_of))]
 fn put_entry(
     alloc: Global,
     out: &mut Vec<u8>,

@@ -1,9 +1,9 @@
 -- Cuts and pieces.
-use Rattle.std.proofs.Common.{◌≡◌, ◌≢◌, ◌⊎◌, inl, inr, ℕ, ◌+◌, ◌<◌, ◌≤◌, Bool, true, false, cond, eqb, List, [], ◌∷◌, ◌++◌, length, get_or, take, drop, Option, Some, None, refl, sym, ap, ◌∙◌, arith}
+use Rattle.std.proofs.Common.{◌≡◌, ◌≢◌, ◌⊎◌, inl, inr, ℕ, true, false, cond, eqb, List, [], ◌∷◌, ◌++◌, Option, Some, None, refl, sym, ap, ◌∙◌}
 use Rattle.std.proofs.Common.{eq-eqb}
 use Rattle.std.proofs.lemmas.Bool.{ne_eqb}
 use Rattle.std.specs.List.{AllByRecursion}
-use Rattle.pack_list.specs.Lines.{before_first, pieces, words, lines, said, line_of}
+use Rattle.pack_list.specs.Lines.{before_first, pieces, words, lines, said}
 use Rattle.pack_list.specs.Cuts.{Cuts}
 
 module _ (separator : ℕ) (last : List (List ℕ)) where

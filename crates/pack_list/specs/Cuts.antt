@@ -1,5 +1,5 @@
 -- What a cut gives, and a line as data.
-use Rattle.std.specs.Prelude.{◌≡◌, ◌≢◌, ℕ, List, [], ◌∷◌, ◌++◌, Option, Some, None}
+use Rattle.std.specs.Prelude.{◌≡◌, ◌≢◌, ℕ, List, ◌∷◌, ◌++◌, Option, Some, None}
 use Rattle.std.specs.List.{AllByRecursion}
 use Rattle.pack_list.specs.Lines as list
 use Rattle.pack_list.specs.declared.lines.Line.{Line}

@@ -1,5 +1,5 @@
 -- What a line's step answers and leaves, against what the definitions give.
-use Rattle.std.specs.Prelude.{◌≡◌, ℕ, List, map, Option, Some, None, Result, Ok, Err}
+use Rattle.std.specs.Prelude.{◌≡◌, ℕ, Option, Some, None, Result, Ok, Err}
 use Rattle.file_tree.specs.FileTree.{FileTree}
 use Rattle.pack_list.specs.declared.judging.LineFault.{LineFault}
 use Rattle.pack_list.specs.declared.judging.LineFault.TheVariants.{Wrong, Memory}

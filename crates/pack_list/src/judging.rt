@@ -68,6 +68,7 @@ fn make(alloc: Global, tree: &mut Tree, line: Line<'_>) -> Result<u32, LineFault
 }
 
 // makes what a line says, and gives the file whose bytes it names, if any
+#[tactic(auto, unfolding(crate::specs::Judging::judge_line))]
 fn judge_line<'a>(
     alloc: Global,
     number: u32,
@@ -94,6 +95,7 @@ fn judge_line<'a>(
 }
 
 // makes what a line says, and puts the file whose bytes it names, if any, behind the others
+#[tactic(auto, using(crate::proofs::JudgeLemmas::line_fault_taken))]
 fn take_line<'a>(
     alloc: Global,
     number: u32,
@@ -124,6 +126,7 @@ fn rest_of(more: Option<&[u8]>) -> &[u8]
 }
 
 // the lines one after another, from the root alone
+#[tactic(auto, using(crate::proofs::JudgeLemmas::wrong_line, crate::proofs::JudgeLemmas::no_more))]
 fn judge_lines<'a>(alloc: Global, tree: Tree, text: &'a [u8]) -> Result<PackList<'a>, ListFault>
     requires { length text.now ≤ 1048576 }
     ensures { Judges (judge_lines 1 tree (lines text.now)) result }
@@ -148,6 +151,7 @@ fn judge_lines<'a>(alloc: Global, tree: Tree, text: &'a [u8]) -> Result<PackList
 /// The tree of a list, in which all files are empty, and the names of their bytes. A list has at most 1,048,576 bytes. `Wrong` comes exactly
 /// for the first line that is wrong: one that is neither `dir PATH` nor `file PATH NAME`, whose path is none that an image may
 /// have, or that the tree refuses. `Memory` is want of memory.
+#[tactic(auto, unfolding(crate::specs::Judging::judge))]
 pub fn judge(alloc: Global, text: &[u8]) -> Result<PackList<'_>, ListFault>
     requires { length text.now ≤ 1048576 }
     ensures { Judges (judge text.now) result }

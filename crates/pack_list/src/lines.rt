@@ -76,6 +76,7 @@ fn directory_line<'a>(kind: &[u8], path: &'a [u8]) -> Option<Line<'a>>
 }
 
 // what a line says that has these words, and this behind their last space
+#[tactic(auto, using(crate::proofs::Pieces::words_cut, crate::proofs::Pieces::too_many))]
 fn third<'a>(kind: &[u8], path: &'a [u8], rest: &'a [u8]) -> Option<Line<'a>>
     ensures { option_map seen result ≡ said (kind.now ∷ path.now ∷ words rest.now) }
 {
@@ -86,6 +87,7 @@ fn third<'a>(kind: &[u8], path: &'a [u8], rest: &'a [u8]) -> Option<Line<'a>>
     }
 }
 
+#[tactic(auto, using(crate::proofs::Pieces::words_cut))]
 fn second<'a>(kind: &[u8], rest: &'a [u8]) -> Option<Line<'a>>
     ensures { option_map seen result ≡ said (kind.now ∷ words rest.now) }
 {
@@ -98,6 +100,7 @@ fn second<'a>(kind: &[u8], rest: &'a [u8]) -> Option<Line<'a>>
 
 /// What a line says: `dir PATH` or `file PATH NAME`, one space apart, where NAME is a text and isn't empty. `None` where it
 /// is neither.
+#[tactic(auto, using(crate::proofs::Pieces::words_cut), unfolding(crate::specs::Lines::line_of))]
 pub(crate) fn line_of(line: &[u8]) -> Option<Line<'_>>
     ensures { option_map seen result ≡ line_of line.now }
 {

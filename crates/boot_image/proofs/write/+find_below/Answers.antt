@@ -1,15 +1,8 @@
-use Rattle.std.proofs.Common.{◌-◌, List, ℕ, sym, ap, ◌∙◌, arith}
-use Rattle.boot_image.proofs.Finding.{none_at_zero, nothing_in, all_found, one_found, here}
+use Rattle.std.proofs.Common.{◌-◌, List, ℕ, ap, ◌∙◌}
+use Rattle.boot_image.proofs.PathsOf.{one_found, here}
 use Rattle.std.specs.List.{flat_map}
 use Rattle.boot_image.specs.Written.{with_paths, path_in, below}
 use Rattle.boot_image.proofs.write.+find_below.Goals as goal
-
-pub returns-then-levels-eq0 : goal.returns-then-levels-eq0
-returns-then-levels-eq0 t c = sym (none_at_zero c.args.levels c.args.found.now c.args.tree.now c.args.path.now c.args.dir c.if-levels-eq0.true)
-
-pub returns-in-Err-Errno : goal.returns-in-Err-Errno
-returns-in-Err-Errno t c =
-    nothing_in c.args.levels c.args.tree.now c.args.path.now c.args.dir c.args.found.now (omega arith) c.in-Err-Errno.field-0-0 (rw c.in-Err-Errno.field-0-is at c.in-Err-Errno.ensures)
 
 pub loop-listed-preserved : goal.loop-listed-preserved
 loop-listed-preserved t c =
@@ -18,8 +11,3 @@ loop-listed-preserved t c =
     one_found (c.args.levels - 1) c.args.tree.now c.args.path.now c.as_slice-listed-items.result.now c.loop-listed.listed-index c.listed-item.result c.in_ok-child.child c.in_ok-inside.inside
     c.loop-listed.found c.insert.new.self c.find_below.new.found (with_paths c.args.found.now (flat_map (here (c.args.levels - 1) c.args.tree.now c.args.path.now) c.as_slice-listed-items.result.now))
     c.loop-listed-test.true c.listed-item.is child inside c.in_ok-insert.ensures (c.in_ok-find_below.ensures ∙ ap (λ (p : List ℕ). with_paths c.insert.new.self (below (c.args.levels - 1) c.args.tree.now p c.listed-item.result.node)) c.as_slice-in-loop-listed-2.ensures) c.loop-listed.invariant
-
-pub returns : goal.returns
-returns t c =
-    all_found c.args.levels c.args.tree.now c.args.path.now c.args.dir c.args.found.now (omega arith) c.in-Ok.listing c.as_slice-listed-items.result.now c.loop-listed.listed-index c.loop-listed.found
-    c.in-Ok.ensures c.as_slice-listed-items.ensures c.loop-listed-test.false c.loop-listed.invariant

@@ -1,7 +1,7 @@
 use Rattle.std.proofs.Common.{◌≡◌, ◌-◌, drop}
 use Rattle.std.specs.List.{flat_map}
 use Rattle.boot_image.specs.Written.{with_paths}
-use Rattle.boot_image.proofs.Finding.{here}
+use Rattle.boot_image.proofs.PathsOf.{here}
 use Rattle.boot_image.proofs.write.+find_below.Given as goal
 
 abbrev pub decreases-find_below : goal.decreases-find_below

@@ -1,13 +1,18 @@
-use Rattle.std.proofs.Common.{List, ℕ, sym, subst, ◌∙◌, map}
+use Rattle.std.proofs.Common.{◌≡◌, ℕ, List, [], ◌∷◌, ◌++◌, map, sym, ap, subst, ◌∙◌, append-nil, append_assoc}
 use Rattle.std.specs.List.{flat_map}
 use Rattle.std.specs.FinMap.{entries}
-use Rattle.boot_image.specs.Entries.{entry_bytes}
+use Rattle.file_tree.specs.FileTree.{FileTree}
+use Rattle.boot_image.specs.Entries.{magic, entry_bytes}
 use Rattle.boot_image.specs.Same.{ReadsBack}
 use Rattle.boot_image.specs.Written.{paths_of, entry_of, entries_of, image_of}
-use Rattle.boot_image.proofs.Contents.{all_written}
-use Rattle.boot_image.proofs.RoundTrip.{reads_back}
-use Rattle.boot_image.proofs.ShortPaths.{short_where_read}
+use Rattle.boot_image.proofs.RoundTrip.{reads_back, short_where_read}
 use Rattle.boot_image.proofs.write.write_image.Goals as goal
+
+-- where no path is left, the end makes it the image
+all_written : (tree : FileTree) (left : List (List ℕ × ℕ)) (out ended body : List ℕ) → left ≡ [] → out ++ flat_map entry_bytes (map (entry_of tree) left) ≡ magic ++ body → ended ≡ out ++ 0 ∷ [] → ended ≡ magic ++ (body ++ 0 ∷ [])
+all_written tree left out ended body none so_far is =
+    let whole : out ≡ magic ++ body = sym (append-nil out) ∙ ap (λ (l : List (List ℕ × ℕ)). out ++ flat_map entry_bytes (map (entry_of tree) l)) (sym none) ∙ so_far in
+    is ∙ ap (λ (b : List ℕ). b ++ 0 ∷ []) whole ∙ append_assoc magic body (0 ∷ [])
 
 pub returns : goal.returns
 unfolding image_of entries_of

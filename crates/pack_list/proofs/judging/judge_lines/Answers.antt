@@ -1,22 +1,14 @@
-use Rattle.std.proofs.Common.{◌≡◌, ◌≢◌, ◌+◌, ◌++◌, ℕ, List, [], length, map, eqb, sym, ap, ◌∙◌, arith}
-use Rattle.std.proofs.lemmas.Bool.{eqb-true, eqb-false}
-use Rattle.std.proofs.lemmas.List.{nil_from_length}
+use Rattle.std.proofs.Common.{◌+◌, ◌++◌, ℕ, List, length, map, sym, ap, ◌∙◌, arith}
 use Rattle.std.specs.Option.{option_copied}
 use Rattle.pack_list.specs.Lines.{lines}
 use Rattle.pack_list.specs.Judging.{Named, behind, judge_lines}
 use Rattle.pack_list.specs.Answers.{seen}
-use Rattle.pack_list.proofs.JudgeLemmas.{wrong_line, one_line, no_more, shorter}
+use Rattle.pack_list.proofs.JudgeLemmas.{one_line, shorter}
 use Rattle.pack_list.proofs.judging.judge_lines.Goals as goal
-
-pub returns-in-Err-Wrong : goal.returns-in-Err-Wrong
-returns-in-Err-Wrong c =
-    let some : c.lines.rest.now ≢ [] = λ e. eqb-false (length c.lines.rest.now) 0 (sym c.is_empty.ensures ∙ c.lines-test.true) (ap (λ (b : List ℕ). length b) e) in
-    wrong_line c.lines.number c.lines.tree c.lines.rest.now c.cut.result.0.now (option_copied c.cut.result.1) some c.cut.ensures
-    (map seen c.lines.files.items) (judge_lines 1 c.args.tree (lines c.args.text.now)) c.lines.invariant.given (rw c.in-Err-Wrong.field-0-is at c.in-Err-Wrong.ensures)
 
 pub lines-preserved : goal.lines-preserved
 lines-preserved c =
-    let some : c.lines.rest.now ≢ [] = λ e. eqb-false (length c.lines.rest.now) 0 (sym c.is_empty.ensures ∙ c.lines-test.true) (ap (λ (b : List ℕ). length b) e) in
+    let some = sym c.is_empty.ensures ∙ c.lines-test.true in
     let taken = c.in-Ok.ensures in
     let less = shorter c.lines.number c.lines.tree c.lines.rest.now c.cut.result.0.now (option_copied c.cut.result.1) some c.cut.ensures in
     let len = ap (λ (b : List ℕ). length b) c.rest_of-rest.ensures in
@@ -28,8 +20,3 @@ lines-preserved c =
           (map seen c.lines.files.items) (judge_lines 1 c.args.tree (lines c.args.text.now)) c.lines.invariant.given c.take_line.new.tree taken.0 taken.1;
       few = omega (arith, c.lines.invariant.few, less, len);
     }
-
-pub returns : goal.returns
-returns c =
-    no_more c.lines.number c.lines.tree c.lines.rest.now (map seen c.lines.files.items) (judge_lines 1 c.args.tree (lines c.args.text.now))
-    (nil_from_length c.lines.rest.now (eqb-true (length c.lines.rest.now) 0 (sym c.is_empty.ensures ∙ c.lines-test.false))) c.lines.invariant.given
