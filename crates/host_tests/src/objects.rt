@@ -1,4 +1,4 @@
-//! Error numbers, lists and entries, and the objects in memory through the traits of the outside, with one
+//! Lists and entries, and the objects in memory through the traits of the outside, with one
 //! failing call in the midst of each object's calls.
 
 ghost use Rattle.std.specs.Prelude.{◌≡◌, ◌≤◌, OnOk, OnErr, IfOk, take};
@@ -8,42 +8,6 @@ ghost use Rattle.wx_types.specs.Outside.{Rose, preceded_by};
 use std::alloc::Global;
 use std::test::Fail;
 use wx_types::*;
-
-#[test]
-fn numbers_are_those_of_the_standard(rt: HostRuntime) {
-    let table = [
-        (Errno::Success, 0),
-        (Errno::TooBig, 1),
-        (Errno::Acces, 2),
-        (Errno::Again, 6),
-        (Errno::Badf, 8),
-        (Errno::Child, 12),
-        (Errno::Exist, 20),
-        (Errno::Fault, 21),
-        (Errno::Fbig, 22),
-        (Errno::Intr, 27),
-        (Errno::Inval, 28),
-        (Errno::Io, 29),
-        (Errno::Isdir, 31),
-        (Errno::Mfile, 33),
-        (Errno::Nametoolong, 37),
-        (Errno::Nfile, 41),
-        (Errno::Noent, 44),
-        (Errno::Noexec, 45),
-        (Errno::Nospc, 51),
-        (Errno::Nosys, 52),
-        (Errno::Notdir, 54),
-        (Errno::Notempty, 55),
-        (Errno::Notsup, 58),
-        (Errno::Pipe, 64),
-        (Errno::Spipe, 70),
-        (Errno::Srch, 71),
-        (Errno::Notcapable, 76),
-    ];
-    for (errno, number) in table {
-        assert_eq!(rt; errno.number(), number);
-    }
-}
 
 #[test]
 fn lists_and_entries_are_copied_whole(rt: HostRuntime) -> Result<(), Fail> {
