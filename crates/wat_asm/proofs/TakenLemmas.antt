@@ -1,41 +1,48 @@
--- A module to which the parts of fields are added is the parts of them all.
+-- A module to which the parts of the fields that the code keeps are added is the module of what they say.
 use Rattle.std.proofs.Common.{◌≡◌, ℕ, ◌+◌, ◌<◌, get_or, Bool, true, false, cond, List, [], ◌∷◌, ◌++◌, length, map, drop, Option, Some, None, Result, Ok, Err, refl, sym, ◌∙◌, ap, append_assoc}
 use Rattle.std.specs.Option.{option_map, option_and_then, option_or}
-use Rattle.std.proofs.lemmas.List.{append-nil}
-use Rattle.wasm_ast.specs.declared.module.Code.{Code}
+use Rattle.std.proofs.lemmas.List.{append-nil, drop_more}
+use Rattle.wasm_ast.specs.declared.types.FuncType.{FuncType}
 use Rattle.wasm_ast.specs.declared.module.Module.{Module}
 use Rattle.wasm_ast.specs.declared.module.ImportKind.TheVariants as import
 use Rattle.wasm_ast.specs.declared.module.ExportKind.{ExportKind}
 use Rattle.wasm_ast.specs.declared.module.ExportKind.TheVariants as export
 use Rattle.wasm_ast.specs.Sequence.{Sequence}
-use Rattle.wat_asm.specs.declared.bindings.Bindings.{Bindings}
-use Rattle.wat_asm.specs.declared.field.Field as kept
-use Rattle.wat_asm.specs.declared.field.Field.TheVariants as field
-use Rattle.wat_asm.specs.declared.parsed.ImportOf.{ImportOf}
-use Rattle.wat_asm.specs.declared.parsed.ImportOf.TheVariants as imported
-use Rattle.wat_asm.specs.declared.spaces.Spaces.{Spaces}
-use Rattle.wat_asm.specs.declared.steps.FunctionField.{FunctionField}
-use Rattle.wat_asm.specs.Parsed.{TypeUse}
-use Rattle.wat_asm.specs.Spaces.{are_distinct, index_in}
-use Rattle.wat_asm.specs.Types.{Found}
-use Rattle.wat_asm.specs.Meaning.{all_some, nothing, groups, exports_as, import_function_meant, expression}
-use Rattle.wat_asm.specs.Assembled.{joined, in_front, if_given}
-use Rattle.wat_asm.specs.Seen.{seen_reference, seen_use, seen_variables, seen_exported}
-use Rattle.wat_asm.specs.Flat.{seen_steps}
-use Rattle.wat_asm.specs.Steps.{type_for, body_for}
-use Rattle.wat_asm.specs.KeptParts.{parts_kept, local_names, function_of, import_given, function_given, exported_for, given_kept}
-use Rattle.wat_asm.proofs.LoopLemmas.{left}
-use Rattle.wat_asm.specs.KeptSpaces.{spaces_with, kept_rebinds}
-use Rattle.wat_asm.specs.declared.field.FieldInLine.{FieldInLine}
-use Rattle.wat_asm.proofs.DistinctLemmas.{distinct_is, locals_are}
-use Rattle.wat_asm.specs.Taken.{exports_named, variable_names, import_with, import_function_taken, import_taken, function_with, function_taken, taken}
+use Rattle.wat_syntax.specs.declared.field.Field as kept
+use Rattle.wat_syntax.specs.declared.field.Field.TheVariants as field
+use Rattle.wat_syntax.specs.declared.field.FieldInLine.{FieldInLine}
+use Rattle.wat_syntax.specs.declared.parsed.Exported as kept_exported
+use Rattle.wat_syntax.specs.declared.parsed.Exported.TheVariants as exported
+use Rattle.wat_syntax.specs.declared.parsed.ImportOf.{ImportOf}
+use Rattle.wat_syntax.specs.declared.parsed.ImportOf.TheVariants as imported
+use Rattle.wat_syntax.specs.declared.steps.FunctionField as kept_function
+use Rattle.wat_syntax.specs.Parsed.{TypeUse, Variable, Field, FunctionParts, InLine}
+use Rattle.wat_syntax.specs.Seen.{seen_reference, seen_use, seen_variables, seen_import, seen_exported}
+use Rattle.wat_syntax.specs.Flat.{FlatStep, seen_steps, flat, SeesFunction}
+use Rattle.wat_syntax.specs.SeenFields.{SeesField, SeesFields}
+use Rattle.wat_spaces.specs.declared.bindings.Bindings.{Bindings}
+use Rattle.wat_spaces.specs.declared.spaces.Spaces.{Spaces}
+use Rattle.wat_spaces.specs.Spaces.{Functions, Memories, are_distinct, index_in, space_of, rebinds}
+use Rattle.wat_spaces.specs.Types.{Found, types_of_fields}
+use Rattle.wat_spaces.specs.KeptSpaces.{no_names, spaces_said, spaces_with, kept_rebinds, spaces_of_kept}
+use Rattle.wat_spaces.proofs.CollectedLemmas.{types_are}
+use Rattle.wat_spaces.proofs.SpaceLemmas.{rebinds_seen, spaces_more, spaces_are}
+use Rattle.wat_meaning.specs.Meaning.{Context, all_some, nothing, meaning, exports_as, import_function_meant, function_meant, type_meant, exported_meant, expression, given_by}
+use Rattle.wat_meaning.specs.Meaning as meant
+use Rattle.wat_meaning.specs.Locals.{local_names, variable_names}
+use Rattle.wat_meaning.specs.Steps.{bindings, type_for, body_for}
+use Rattle.wat_meaning.proofs.DistinctLemmas.{distinct_is, locals_are}
+use Rattle.wat_meaning.proofs.StepLemmas.{body_is}
+use Rattle.wat_asm.specs.declared.fault.AsmKind.TheVariants as asm_kind
+use Rattle.wat_asm.specs.Assembled.{Fault, fault, joined, in_front, if_given, parts_of, with_types, module_of_fields}
+use Rattle.wat_asm.specs.Taken.{exports_named, import_with, import_function_taken, import_taken, code_with, code_for, function_with, function_taken, exported_for, taken, if_taken, all_taken, typed, module_kept}
 
 or-none : (o : Option ℕ) → o ≡ option_or o None
 or-none None = refl
 or-none (Some n) = refl
 
 -- nothing behind a module
-pub same_module : (m : Module) → m ≡ joined m nothing
+same_module : (m : Module) → m ≡ joined m nothing
 same_module m = λ i. record {
   types = sym (append-nil m.types) i;
   imports = sym (append-nil m.imports) i;
@@ -54,7 +61,7 @@ or-assoc : (a b c : Option ℕ) → option_or a (option_or b c) ≡ option_or (o
 or-assoc None b c = refl
 or-assoc (Some n) b c = refl
 
-pub joined-assoc : (a b c : Module) → joined a (joined b c) ≡ joined (joined a b) c
+joined-assoc : (a b c : Module) → joined a (joined b c) ≡ joined (joined a b) c
 joined-assoc a b c = λ i. record {
   types = sym (append_assoc a.types b.types c.types) i;
   imports = sym (append_assoc a.imports b.imports c.imports) i;
@@ -69,112 +76,145 @@ joined-assoc a b c = λ i. record {
   segments = sym (append_assoc a.segments b.segments c.segments) i;
 }
 
--- the same at each value
-each : {A B : Type 0} (f g : A → B) → ((a : A) → f a ≡ g a) → (o : Option A) → option_map f o ≡ option_map g o
-each f g h None = refl
-each f g h (Some a) = ap Some (h a)
+-- ---- the parts of one field
 
-map-map : {A B C : Type 0} (f : A → B) (g : B → C) (o : Option A) → option_map (λ a. g (f a)) o ≡ option_map g (option_map f o)
-map-map f g None = refl
-map-map f g (Some a) = refl
-
-module _ (b : Bindings) (m : Module) where
-  import_function_case : (from field : List ℕ) (of : TypeUse) → import_function_taken b from field of m ≡ option_map (joined m) (option_and_then (import_function_meant from field of) (type_for b of))
+module _ (c : Context) (m : Module) where
+  import_function_case : (from field : List ℕ) (of : TypeUse) → import_function_taken (bindings c) from field of m ≡ option_map (joined m) (option_and_then (import_function_meant from field of) (type_meant c of))
   import_function_case from field of =
-      ap (option_and_then (λ names. option_map (import_with m from field) (option_map (λ (found : Found). found.index) (type_for b of)))) (distinct_is [] (variable_names of.params) refl)
-      ∙ by (are_distinct (variable_names of.params)) (type_for b of)
+      ap (option_and_then (λ names. option_map (import_with m from field) (option_map (λ (found : Found). found.index) (type_meant c of)))) (distinct_is [] (variable_names of.params) refl)
+      ∙ by (are_distinct (variable_names of.params)) (type_meant c of)
     where
       by : (d : Bool) (o : Option Found) → option_and_then (λ names. option_map (import_with m from field) (option_map (λ (found : Found). found.index) o)) (cond d (Some (variable_names of.params)) None)
           ≡ option_map (joined m) (option_and_then (λ (found : Found). cond d (Some (record nothing { imports = record { «module» = from; name = field; kind = import.Func found.index } ∷ [] })) None) o)
-      by true None = refl
-      by false None = refl
-      by false (Some found) = refl
       by true (Some found) = λ i. Some (record (same_module m i) { imports = m.imports ++ record { «module» = from; name = field; kind = import.Func found.index } ∷ [] })
+      by false None = refl
+      by d o = refl
 
-  import_case : (from field : List ℕ) (of : ImportOf) → import_taken b from field of m ≡ option_map (joined m) (import_given b from field of)
-  import_case from field (imported.Function name of) = import_function_case from field (seen_use of)
-  import_case from field (imported.Memory name of) = λ i. Some (record (same_module m i) { imports = m.imports ++ record { «module» = from; name = field; kind = import.Memory of } ∷ [] })
+  import_case : (before : List Field) (from field : List ℕ) (of : ImportOf) → import_taken (bindings c) from field of m ≡ option_map (joined m) (given_by c before (seen_import from field of))
+  import_case before from field (imported.Function name of) = import_function_case from field (seen_use of)
+  import_case before from field (imported.Memory name of) = λ i. Some (record (same_module m i) { imports = m.imports ++ record { «module» = from; name = field; kind = import.Memory of } ∷ [] })
 
-  abbrev code_with : FunctionField → Sequence → Code
-  code_with f body = record { locals = groups (seen_variables f.locals.items); body = body }
+  -- a function by what it is made of
+  abbrev made_of : ℕ → (exports : List (List ℕ)) (params locals : List Variable) → List FlatStep → Found → Option Module
+  made_of index exports params locals steps found = option_map (function_with m index exports found.index) (code_for (bindings c) found.of params locals steps)
 
-  function_case : (index : ℕ) (f : FunctionField) (o : Option Found) → option_and_then (function_taken b index f m) o ≡ option_map (joined m) (option_and_then (function_given b index f) o)
-  function_case index f None = refl
-  function_case index f (Some found) =
-      ap (λ ls. option_map (function_with m index f.exports.items found.index) (option_and_then (λ locals. option_map (code_with f) (body_for b locals (seen_steps f.body.items))) ls)) (locals_are f found.of)
-      ∙ by (are_distinct (local_names f found.of)) (body_for b (local_names f found.of) (seen_steps f.body.items)) refl
+  function_made : (index : ℕ) (f : FunctionParts) (found : Found) → (names : List (Option (List ℕ))) (d : Bool) (o : Option Sequence) → body_for (bindings c) names (flat f.body) ≡ o →
+      option_map (function_with m index f.exports found.index) (option_and_then (λ ns. option_map (code_with f.locals) (body_for (bindings c) ns (flat f.body))) (cond d (Some names) None))
+      ≡ option_map (joined m) (cond d (option_map (meant.function_with index f found.index) o) None)
+  function_made index f found names false o e = refl
+  function_made index f found names true None e = ap (λ x. option_map (function_with m index f.exports found.index) (option_map (code_with f.locals) x)) e
+  function_made index f found names true (Some body) e =
+      ap (λ x. option_map (function_with m index f.exports found.index) (option_map (code_with f.locals) x)) e
+      ∙ (λ i. Some (record (same_module m i) {
+        functions = m.functions ++ found.index ∷ [];
+        exports = m.exports ++ exports_named (export.Func index) f.exports;
+        codes = m.codes ++ code_with f.locals body ∷ [];
+      }))
+
+  function_case : (index : ℕ) (f : kept_function.FunctionField) (said : FunctionParts) → SeesFunction f said →
+      option_and_then (function_taken (bindings c) index f m) (type_for (bindings c) (seen_use f.of)) ≡ option_map (joined m) (option_and_then (function_meant c index said) (type_meant c said.of))
+  function_case index f said h =
+      ap (λ xs. option_and_then (made_of index xs (seen_use f.of).params (seen_variables f.locals.items) (seen_steps f.body.items)) (type_for (bindings c) (seen_use f.of))) h.exports
+      ∙ ap (λ u. option_and_then (made_of index said.exports u.params (seen_variables f.locals.items) (seen_steps f.body.items)) (type_for (bindings c) u)) h.of
+      ∙ ap (λ vs. option_and_then (made_of index said.exports said.of.params vs (seen_steps f.body.items)) (type_meant c said.of)) h.locals
+      ∙ ap (λ ss. option_and_then (made_of index said.exports said.of.params said.locals ss) (type_meant c said.of)) h.body
+      ∙ by (type_meant c said.of)
     where
-      by : (d : Bool) (o : Option Sequence) → body_for b (local_names f found.of) (seen_steps f.body.items) ≡ o →
-          option_map (function_with m index f.exports.items found.index) (option_and_then (λ locals. option_map (code_with f) (body_for b locals (seen_steps f.body.items))) (cond d (Some (local_names f found.of)) None))
-          ≡ option_map (joined m) (cond d (option_map (function_of index f found.index) o) None)
-      by false o e = refl
-      by true None e = ap (λ x. option_map (function_with m index f.exports.items found.index) (option_map (code_with f) x)) e
-      by true (Some body) e =
-          ap (λ x. option_map (function_with m index f.exports.items found.index) (option_map (code_with f) x)) e
-          ∙ (λ i. Some (record (same_module m i) {
-            functions = m.functions ++ found.index ∷ [];
-            exports = m.exports ++ exports_named (export.Func index) f.exports.items;
-            codes = m.codes ++ code_with f body ∷ [];
-          }))
-
-  pub taken_is : (before : Spaces) (f : kept.Field) → taken b before f m ≡ option_map (joined m) (given_kept b before f)
-  taken_is before (field.Type f) = ap Some (same_module m)
-  taken_is before (field.Import f) = import_case f.from f.field f.of
-  taken_is before (field.Function f) = function_case (length before.functions) f (type_for b (seen_use f.of))
-  taken_is before (field.Table f) = λ i. Some (record (same_module m i) { tables = m.tables ++ f.of ∷ [] })
-  taken_is before (field.Memory f) = λ i. Some (record (same_module m i) { memories = m.memories ++ f.of ∷ []; exports = (joined m (record nothing { exports = exports_as export.Memory (length before.memories) f.exports.items })).exports })
-  taken_is before (field.Global f) = λ i. Some (record (same_module m i) { globals = m.globals ++ record { of = f.of; mutable = f.mutable; init = expression f.value } ∷ [] })
-  taken_is before (field.Export f) = by (exported_for b.names (seen_exported f.of))
-    where
-      by : (o : Option ExportKind) → option_map (λ kind. record m { exports = m.exports ++ record { name = f.name; kind = kind } ∷ [] }) o ≡ option_map (joined m) (option_map (λ kind. record nothing { exports = record { name = f.name; kind = kind } ∷ [] }) o)
+      by : (o : Option Found) → option_and_then (made_of index said.exports said.of.params said.locals (flat said.body)) o ≡ option_map (joined m) (option_and_then (function_meant c index said) o)
       by None = refl
-      by (Some kind) = λ i. Some (record (same_module m i) { exports = m.exports ++ record { name = f.name; kind = kind } ∷ [] })
-  taken_is before (field.Start x) = by (index_in b.names.functions (seen_reference x))
+      by (Some found) =
+          let names = local_names found.of said.of.params said.locals in
+          ap (λ ns. option_map (function_with m index said.exports found.index) (option_and_then (λ n. option_map (code_with said.locals) (body_for (bindings c) n (flat said.body))) ns)) (locals_are found.of said.of.params said.locals)
+          ∙ function_made index said found names (are_distinct names) (meaning c names [] said.body) (body_is c names said.body h.formed)
+
+  export_case : (name : List ℕ) (o : Option ExportKind) → option_map (λ kind. record m { exports = m.exports ++ record { name = name; kind = kind } ∷ [] }) o
+      ≡ option_map (joined m) (option_map (λ kind. record nothing { exports = record { name = name; kind = kind } ∷ [] }) o)
+  export_case name None = refl
+  export_case name (Some kind) = λ i. Some (record (same_module m i) { exports = m.exports ++ record { name = name; kind = kind } ∷ [] })
+
+  exported_case : (x : kept_exported.Exported) → exported_for (spaces_said c.fields) (seen_exported x) ≡ exported_meant c (seen_exported x)
+  exported_case (exported.Function x) = refl
+  exported_case x = refl
+
+  taken_said : (before : List Field) (f : kept.Field) (said : Field) → SeesField f said → taken (bindings c) (spaces_said before) f m ≡ option_map (joined m) (given_by c before said)
+  taken_said before (field.Type f) said h = ap Some (same_module m) ∙ ap (λ s. option_map (joined m) (given_by c before s)) (sym h)
+  taken_said before (field.Import f) said h = import_case before f.from f.field f.of ∙ ap (λ s. option_map (joined m) (given_by c before s)) (sym h)
+  taken_said before (field.Function f) said h = function_case (length (space_of Functions before)) f h.0 h.2 ∙ ap (λ s. option_map (joined m) (given_by c before s)) (sym h.1)
+  taken_said before (field.Table f) said h = (λ i. Some (record (same_module m i) { tables = m.tables ++ f.of ∷ [] })) ∙ ap (λ s. option_map (joined m) (given_by c before s)) (sym h)
+  taken_said before (field.Memory f) said h =
+      (λ i. Some (record (same_module m i) { memories = m.memories ++ f.of ∷ []; exports = m.exports ++ exports_as export.Memory (length (space_of Memories before)) f.exports.items }))
+      ∙ ap (λ s. option_map (joined m) (given_by c before s)) (sym h)
+  taken_said before (field.Global f) said h =
+      (λ i. Some (record (same_module m i) { globals = m.globals ++ record { of = f.of; mutable = f.mutable; init = expression f.value } ∷ [] })) ∙ ap (λ s. option_map (joined m) (given_by c before s)) (sym h)
+  taken_said before (field.Export f) said h =
+      export_case f.name (exported_for (spaces_said c.fields) (seen_exported f.of))
+      ∙ ap (λ o. option_map (joined m) (option_map (λ kind. record nothing { exports = record { name = f.name; kind = kind } ∷ [] }) o)) (exported_case f.of)
+      ∙ ap (λ s. option_map (joined m) (given_by c before s)) (sym h)
+  taken_said before (field.Start x) said h = by (index_in (spaces_said c.fields).functions (seen_reference x)) ∙ ap (λ s. option_map (joined m) (given_by c before s)) (sym h)
     where
       by : (o : Option ℕ) → option_map (λ n. record m { start = option_or m.start (Some n) }) o ≡ option_map (joined m) (option_map (λ n. record nothing { start = Some n }) o)
       by None = refl
       by (Some n) = λ i. Some (record (same_module m i) { start = option_or m.start (Some n) })
-  taken_is before (field.Element f) = by (all_some (map (index_in b.names.functions) (map seen_reference f.functions.items)))
+  taken_said before (field.Element f) said h =
+      by (all_some (map (index_in (spaces_said c.fields).functions) (map seen_reference f.functions.items))) ∙ ap (λ s. option_map (joined m) (given_by c before s)) (sym h)
     where
       by : (o : Option (List ℕ)) → option_map (λ fs. record m { elements = m.elements ++ record { table = 0; offset = expression f.offset; functions = fs } ∷ [] }) o
           ≡ option_map (joined m) (option_map (λ fs. record nothing { elements = record { table = 0; offset = expression f.offset; functions = fs } ∷ [] }) o)
       by None = refl
       by (Some fs) = λ i. Some (record (same_module m i) { elements = m.elements ++ record { table = 0; offset = expression f.offset; functions = fs } ∷ [] })
-  taken_is before (field.Data f) = λ i. Some (record (same_module m i) { segments = m.segments ++ record { memory = 0; offset = expression f.offset; bytes = f.bytes } ∷ [] })
+  taken_said before (field.Data f) said h =
+      (λ i. Some (record (same_module m i) { segments = m.segments ++ record { memory = 0; offset = expression f.offset; bytes = f.bytes } ∷ [] })) ∙ ap (λ s. option_map (joined m) (given_by c before s)) (sym h)
 
--- a part behind a module, and what comes behind it
-pub front_more : (a b : Module) (r : Result Module ℕ) → in_front a (in_front b r) ≡ in_front (joined a b) r
-front_more a b (Ok m) = ap Ok (joined-assoc a b m)
-front_more a b (Err line) = refl
+-- ---- the parts of all fields
 
-front_err : (a : Module) (line : ℕ) → in_front a (Err line) ≡ Err line
-front_err a line = refl
+-- with the kind of a fault
+abbrev named : Result Module ℕ → Result Module Fault
+named (Ok m) = Ok m
+named (Err line) = Err (fault asm_kind.Name line)
 
-none_left : {A B : Type 0} (f : A → B) (o : Option A) → option_map f o ≡ None → o ≡ None
-none_left f None e = refl
-none_left f (Some a) e = absurd (let e' = e in cc)
+abbrev one : Bool → ℕ → Option Module → (Module → Result Module Fault) → Result Module Fault
+one b line o more = cond b (Err (fault asm_kind.Name line)) (if_taken line o more)
 
-some_left : (m n : Module) (o : Option Module) → option_map (joined m) o ≡ Some n → (p : Module) × (o ≡ Some p) × (joined m p ≡ n)
-some_left m n None e = absurd (let e' = e in cc)
-some_left m n (Some p) e = (p, refl, let e' = e in cc)
+step : (m : Module) (line : ℕ) (b : Bool) (o : Option Module) (rest : Result Module ℕ) →
+    one b line (option_map (joined m) o) (λ n. named (in_front n rest)) ≡ named (in_front m (cond b (Err line) (if_given line o rest)))
+step m line true o rest = refl
+step m line false None rest = refl
+step m line false (Some p) (Ok n) = ap Ok (sym (joined-assoc m p n))
+step m line false (Some p) (Err other) = refl
 
--- a field is added
-pub taken_front : (b : Bindings) (m n : Module) (before : Spaces) (f : kept.Field) (line : ℕ) (rest : Result Module ℕ) → taken b before f m ≡ Some n → in_front m (if_given line (given_kept b before f) rest) ≡ in_front n rest
-taken_front b m n before f line rest e =
-    let h = some_left m n (given_kept b before f) (sym (taken_is b m before f) ∙ e) in
-    ap (λ o. in_front m (if_given line o rest)) h.1 ∙ front_more m h.0 rest ∙ ap (λ x. in_front x rest) h.2
+all_said : (c : Context) (before : List Field) (fs : List FieldInLine) (said : List (InLine Field)) → SeesFields fs said → (m : Module) →
+    all_taken (bindings c) (spaces_said before) fs m ≡ named (in_front m (parts_of c before said))
+all_said c before [] [] h m = ap Ok (same_module m)
+all_said c before (f ∷ fs) (s ∷ said) h m =
+    let b = bindings c in
+    let now = spaces_said before in
+    let all = all_taken b (spaces_with now f.field) fs in
+    ap (λ l. one (kept_rebinds now f.field) l (taken b now f.field m) all) (sym h.0)
+    ∙ ap (λ x. one x s.line (taken b now f.field m) all) (rebinds_seen before f.field s.value h.1)
+    ∙ ap (λ o. one (rebinds before s.value) s.line o all) (taken_said c m before f.field s.value h.1)
+    ∙ ap (λ x. one (rebinds before s.value) s.line (option_map (joined m) (given_by c before s.value)) (all_taken b x fs)) (spaces_more before f.field s.value h.1)
+    ∙ ap (one (rebinds before s.value) s.line (option_map (joined m) (given_by c before s.value))) (λ i n. all_said c (before ++ s.value ∷ []) fs said h.2 n i)
+    ∙ step m s.line (rebinds before s.value) (given_by c before s.value) (parts_of c (before ++ s.value ∷ []) said)
+all_said c before fs said h m = absurd h
 
-pub untaken : (b : Bindings) (m : Module) (before : Spaces) (f : kept.Field) (line : ℕ) (rest : Result Module ℕ) → taken b before f m ≡ None → in_front m (if_given line (given_kept b before f) rest) ≡ Err line
-untaken b m before f line rest e = ap (λ o. in_front m (if_given line o rest)) (none_left (joined m) (given_kept b before f) (sym (taken_is b m before f) ∙ e))
+-- the module of the fields
+pub module_is : (fs : List FieldInLine) (said : List (InLine Field)) → SeesFields fs said → module_kept fs ≡ module_of_fields said
+module_is fs said h =
+    let fields = map (λ (s : InLine Field). s.value) said in
+    let types = types_of_fields fields in
+    ap (λ ts. typed ts (all_taken (record { of = ts; names = spaces_of_kept no_names fs }) no_names fs nothing)) (types_are fs said h)
+    ∙ ap (λ s. typed types (all_taken (record { of = types; names = s }) no_names fs nothing)) (spaces_are fs said h)
+    ∙ ap (typed types) (all_said (record { fields = fields; types = types }) [] fs said h nothing)
+    ∙ by types (parts_of (record { fields = fields; types = types }) [] said)
+  where
+    by : (types : List FuncType) (parts : Result Module ℕ) → typed types (named (in_front nothing parts)) ≡ with_types types parts
+    by types (Ok m) = refl
+    by types (Err line) = refl
 
-pub front_nothing : (r : Result Module ℕ) → in_front nothing r ≡ r
-front_nothing (Ok m) = refl
-front_nothing (Err line) = refl
-
--- one turn of the walk over the fields, whose field binds no name anew
-pub turn : (b : Bindings) (xs : List FieldInLine) (i : ℕ) (x : FieldInLine) (before : Spaces) (m : Module) (all : Result Module ℕ) → i < length xs → x ≡ get_or xs i x →
-    in_front m (parts_kept b before (drop i xs)) ≡ all → kept_rebinds before x.field ≡ false →
-    in_front m (if_given x.line (given_kept b before x.field) (parts_kept b (spaces_with before x.field) (drop (i + 1) xs))) ≡ all
-turn b xs i x before m all h e seen bound =
-    let behind = if_given x.line (given_kept b before x.field) (parts_kept b (spaces_with before x.field) (drop (i + 1) xs)) in
-    ap (λ r. in_front m (cond r (Err x.line) behind)) (sym bound) ∙ ap (λ ys. in_front m (parts_kept b before ys)) (sym (left xs i x h e)) ∙ seen
+-- a field whose parts are added, and those behind it
+pub turn : (b : Bindings) (xs : List FieldInLine) (i : ℕ) (x : FieldInLine) (before : Spaces) (m : Module) (o : Option Module) (all : Result Module Fault) → i < length xs → x ≡ get_or xs i x →
+    all_taken b before (drop i xs) m ≡ all → kept_rebinds before x.field ≡ false → taken b before x.field m ≡ o → if_taken x.line o (all_taken b (spaces_with before x.field) (drop (i + 1) xs)) ≡ all
+turn b xs i x before m o all h e seen bound part =
+    let more = all_taken b (spaces_with before x.field) (drop (i + 1) xs) in
+    ap (λ p. if_taken x.line p more) (sym part) ∙ ap (λ r. one r x.line (taken b before x.field m) more) (sym bound)
+    ∙ ap (λ ys. all_taken b before ys m) (sym (drop_more xs i x h ∙ ap (λ y. y ∷ drop (i + 1) xs) (sym e))) ∙ seen

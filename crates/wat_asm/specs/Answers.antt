@@ -2,8 +2,8 @@
 use Rattle.std.specs.Prelude.{◌≡◌, ℕ, List, Result, Ok, Err}
 use Rattle.wasm_ast.specs.declared.module.Module.{Module}
 use Rattle.wat_asm.specs.declared.fault.AsmFault.{AsmFault}
-use Rattle.wat_asm.specs.declared.fault.AsmFault.TheVariants as asm
 use Rattle.wat_asm.specs.Assembled.{Fault, fault, assembled}
+use Rattle.wat_asm.specs.declared.fault.AsmFault.TheVariants as asm
 
 -- the answer is the module, or the fault with its kind and its line, unless memory ran out
 abbrev pub Answers : Result Module Fault → Result Module AsmFault → Type 0

@@ -6,12 +6,12 @@ use Rattle.wasm_ast.specs.declared.module.Module.{Module}
 use Rattle.wat_tokens.specs.Tokens.{Token, tokens}
 use Rattle.wat_fields.specs.Items.{Items, items_of}
 use Rattle.wat_asm.specs.declared.fault.AsmKind.{AsmKind}
+use Rattle.wat_syntax.specs.Parsed.{Field, InLine}
+use Rattle.wat_forms.specs.Fields.{groups_in_module, fields_of}
+use Rattle.wat_spaces.specs.Spaces.{rebinds}
+use Rattle.wat_spaces.specs.Types.{types_of_fields}
+use Rattle.wat_meaning.specs.Meaning.{Context, nothing, given_by}
 use Rattle.wat_asm.specs.declared.fault.AsmKind.TheVariants as kind
-use Rattle.wat_asm.specs.Parsed.{Field}
-use Rattle.wat_asm.specs.Fields.{InLine, groups_in_module, fields_of}
-use Rattle.wat_asm.specs.Spaces.{rebinds}
-use Rattle.wat_asm.specs.Types.{types_of_fields}
-use Rattle.wat_asm.specs.Meaning.{Context, nothing, given_by}
 
 -- a fault of a text, with its line
 pub record Fault : Type 0 where

@@ -1,50 +1,42 @@
 // The module of a text: WebAssembly Core 1.0, chapter 6.
-ghost use Rattle.std.specs.Prelude.{◌≡◌, ◌≤◌, true, length, List, Some};
-ghost use Rattle.std.specs.Option.{is_some};
+ghost use Rattle.std.specs.Prelude.{◌≡◌, ◌≤◌, ℕ, length, List, Some, Result, Err};
 ghost use Rattle.wat_fields.specs.Items.{Items, items_of};
 ghost use Rattle.wat_fields.specs.Remaining.{remaining};
-ghost use Rattle.wat_asm.specs.Parsed.{Field};
-ghost use Rattle.wat_asm.specs.Fields.{InLine, groups_of};
-ghost use Rattle.wat_asm.specs.Assembled.{module_of_fields, module_of_groups, module_of_items};
-ghost use Rattle.wat_asm.specs.Seen.{at_place};
-ghost use Rattle.wat_asm.specs.SeenFields.{SeesFields};
-ghost use Rattle.wat_asm.specs.KeptParts.{AreFormed};
-ghost use Rattle.wat_asm.specs.Taken.{AreSimple};
+ghost use Rattle.wat_syntax.specs.Parsed.{Field, InLine};
+ghost use Rattle.wat_forms.specs.Fields.{groups_of};
+ghost use Rattle.wat_forms.specs.ReadFields.{ReadsFields};
+ghost use Rattle.wat_asm.specs.Assembled.{if_formed, module_of_groups, module_of_items};
+ghost use Rattle.wat_syntax.specs.Seen.{at_place};
 ghost use Rattle.wat_asm.specs.Answers.{Answers, Assembles};
 
 use super::fault::{AsmFault, AsmKind};
-use super::field::FieldInLine;
-use super::field_list::fields_of;
-use super::module::{ModuleFault, module_of_fields};
-use super::module_group::{are_groups, module_inside};
+use super::module::module_of_fields;
 use std::alloc::Global;
 use wasm_ast::Module;
 use wat_fields::{Fields, FieldsFault, Place};
+use wat_forms::{FormFault, are_groups, fields_of, module_inside};
 use wat_tokens::{TokenFault, Tokens};
 
-/// The module of fields, or what is wrong with their text.
-fn named(alloc: Global, read: &[FieldInLine<'_>]) -> Result<Module, AsmFault>
-    requires { AreSimple read.now }
-    ensures { (said : List (InLine Field)) → SeesFields read.now said → AreFormed said → Answers (module_of_fields said) result }
+/// What is wrong with a text whose groups aren't fields.
+fn formless(fault: FormFault) -> AsmFault
+    ensures { (fields : Result (List (InLine Field)) ℕ) → ReadsFields (Err fault) fields → Answers (if_formed fields) (Err result) }
 {
-    match module_of_fields(alloc, read) {
-        Ok(module) => Ok(module),
-        Err(ModuleFault::Name { line }) => Err(AsmFault::Text {
+    match fault {
+        FormFault::Form { line } => AsmFault::Text {
             line,
-            kind: AsmKind::Name,
-        }),
-        Err(ModuleFault::Memory) => Err(AsmFault::Memory),
+            kind: AsmKind::Syntax,
+        },
+        FormFault::Memory => AsmFault::Memory,
     }
 }
 
 /// The module of groups that say fields.
 fn module_of_groups(alloc: Global, fields: &Fields<'_>, at: Place) -> Result<Module, AsmFault>
-    requires { is_some (groups_of (at_place fields.now at)) ≡ true }
     ensures { (groups : List (InLine Items)) → groups_of (at_place fields.now at) ≡ Some groups → Answers (module_of_groups (Some groups)) result }
 {
     match fields_of(fields, alloc, at) {
-        Ok(read) => named(alloc, read.as_slice()),
-        Err(fault) => Err(fault),
+        Ok(read) => module_of_fields(alloc, read.as_slice()),
+        Err(fault) => Err(formless(fault)),
     }
 }
 

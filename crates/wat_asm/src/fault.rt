@@ -1,4 +1,8 @@
 // What is wrong with a text.
+ghost use Rattle.std.specs.Prelude.{◌≡◌};
+ghost use Rattle.wat_asm.specs.declared.fault.AsmFault.TheVariants.{Memory};
+
+use std::alloc::AllocError;
 
 /// The kind of a fault of a text. The kinds and their lines are this project's own.
 #[derive(Clone, Copy)]
@@ -19,4 +23,12 @@ pub enum AsmFault {
     Text { line: u32, kind: AsmKind },
     /// Want of memory.
     Memory,
+}
+
+impl From<AllocError> for AsmFault {
+    ghost from_gives = { λ _ fault. fault ≡ Memory };
+
+    fn from(_e: AllocError) -> AsmFault {
+        AsmFault::Memory
+    }
 }

@@ -1,42 +1,19 @@
 // The module of fields: WebAssembly Core 1.0, section 6.6.1.
 ghost use Rattle.std.specs.Prelude.{◌≡◌, List};
-ghost use Rattle.wat_asm.specs.Parsed.{Field};
-ghost use Rattle.wat_asm.specs.Fields.{InLine};
-ghost use Rattle.wat_asm.specs.Meaning.{nothing};
+ghost use Rattle.wat_syntax.specs.Parsed.{Field, InLine};
+ghost use Rattle.wat_meaning.specs.Meaning.{nothing};
 ghost use Rattle.wat_asm.specs.Assembled.{module_of_fields};
-ghost use Rattle.wat_asm.specs.SeenFields.{SeesFields};
-ghost use Rattle.wat_asm.specs.KeptSpaces.{no_names};
-ghost use Rattle.wat_asm.specs.KeptParts.{AreFormed, parts_kept, module_kept};
-ghost use Rattle.wat_asm.specs.Taken.{AreSimple};
-ghost use Rattle.wat_asm.specs.KeptModule.{ArePartsOf, IsModuleOf};
+ghost use Rattle.wat_syntax.specs.SeenFields.{SeesFields};
+ghost use Rattle.wat_spaces.specs.KeptSpaces.{no_names};
+ghost use Rattle.wat_asm.specs.Taken.{all_taken, module_kept};
+ghost use Rattle.wat_asm.specs.Answers.{Answers};
 
-use super::bindings::Bindings;
-use super::field::FieldInLine;
-use super::module_types::types_of;
-use super::spaces::{Spaces, spaces_of};
+use super::fault::{AsmFault, AsmKind};
 use super::take::take;
-use super::unmeant::Unmeant;
-use std::alloc::{AllocError, Global};
+use std::alloc::Global;
 use wasm_ast::{Items, Module};
-
-/// Why fields have no module.
-#[derive(Clone, Copy)]
-pub(crate) enum ModuleFault {
-    /// The field in this line binds an identifier anew, or names what is bound nowhere, or its use of a type means none.
-    Name { line: u32 },
-    /// Want of memory.
-    Memory,
-}
-
-impl From<AllocError> for ModuleFault {
-    ghost use Rattle.wat_asm.specs.declared.module.ModuleFault.TheVariants.{Memory};
-
-    ghost from_gives = { λ _ fault. fault ≡ Memory };
-
-    fn from(_e: AllocError) -> ModuleFault {
-        ModuleFault::Memory
-    }
-}
+use wat_spaces::{Bindings, Spaces, Unmeant, spaces_of, types_of};
+use wat_syntax::FieldInLine;
 
 /// A module of nothing.
 fn nothing(alloc: Global) -> Module
@@ -62,20 +39,27 @@ fn parts_of<'a>(
     alloc: Global,
     bindings: &Bindings<'a>,
     fields: &[FieldInLine<'a>],
-) -> Result<Module, ModuleFault>
-    requires { AreSimple fields.now }
-    ensures { ArePartsOf result (parts_kept bindings.now no_names fields.now) }
+) -> Result<Module, AsmFault>
+    ensures { Answers (all_taken bindings.now no_names fields.now nothing) result }
 {
     let mut before = Spaces::new(alloc);
     let mut module = nothing(alloc);
     for field in fields {
         if before.rebinds(&field.field) {
-            return Err(ModuleFault::Name { line: field.line });
+            return Err(AsmFault::Text {
+                line: field.line,
+                kind: AsmKind::Name,
+            });
         }
         match take(alloc, bindings, &before, &field.field, &mut module) {
             Ok(()) => {}
-            Err(Unmeant::Name) => return Err(ModuleFault::Name { line: field.line }),
-            Err(Unmeant::Memory) => return Err(ModuleFault::Memory),
+            Err(Unmeant::Name) => {
+                return Err(AsmFault::Text {
+                    line: field.line,
+                    kind: AsmKind::Name,
+                });
+            }
+            Err(Unmeant::Memory) => return Err(AsmFault::Memory),
         }
         before = before.with(alloc, &field.field)?;
     }
@@ -83,9 +67,8 @@ fn parts_of<'a>(
 }
 
 /// The module of fields as the code keeps them.
-fn module_kept(alloc: Global, fields: &[FieldInLine<'_>]) -> Result<Module, ModuleFault>
-    requires { AreSimple fields.now }
-    ensures { IsModuleOf result (module_kept fields.now) }
+fn module_kept(alloc: Global, fields: &[FieldInLine<'_>]) -> Result<Module, AsmFault>
+    ensures { Answers (module_kept fields.now) result }
 {
     let of = types_of(alloc, fields)?;
     let names = spaces_of(alloc, fields)?;
@@ -101,9 +84,8 @@ fn module_kept(alloc: Global, fields: &[FieldInLine<'_>]) -> Result<Module, Modu
 pub(crate) fn module_of_fields(
     alloc: Global,
     fields: &[FieldInLine<'_>],
-) -> Result<Module, ModuleFault>
-    requires { AreSimple fields.now }
-    ensures { (said : List (InLine Field)) → SeesFields fields.now said → AreFormed said → IsModuleOf result (module_of_fields said) }
+) -> Result<Module, AsmFault>
+    ensures { (said : List (InLine Field)) → SeesFields fields.now said → Answers (module_of_fields said) result }
 {
     module_kept(alloc, fields)
 }

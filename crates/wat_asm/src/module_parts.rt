@@ -1,29 +1,24 @@
 // The parts that fields give to a module: WebAssembly Core 1.0, section 6.6.
 ghost use Rattle.std.specs.Prelude.{◌≡◌, [], ◌∷◌, ◌++◌, map, Some, IfOk, OnOk};
 ghost use Rattle.std.specs.Option.{option_map, option_or};
-ghost use Rattle.wasm_ast.specs.Built.{NamesNone};
-ghost use Rattle.wat_asm.specs.Meaning.{all_some, expression};
-ghost use Rattle.wat_asm.specs.Spaces.{index_in};
-ghost use Rattle.wat_asm.specs.Seen.{seen_reference, seen_exported};
-ghost use Rattle.wat_asm.specs.KeptParts.{exported_for};
-ghost use Rattle.wat_asm.specs.Taken.{exports_named};
-ghost use Rattle.wat_asm.specs.Means.{Means};
+ghost use Rattle.wat_meaning.specs.Meaning.{all_some, expression};
+ghost use Rattle.wat_spaces.specs.Spaces.{index_in};
+ghost use Rattle.wat_syntax.specs.Seen.{seen_reference, seen_exported};
+ghost use Rattle.wat_asm.specs.Taken.{exports_named, exported_for};
+ghost use Rattle.wat_spaces.specs.Means.{Means};
 
-use super::names::Names;
-use super::parsed::{Exported, Reference};
-use super::spaces::Spaces;
-use super::unmeant::{Unmeant, bound};
 use std::alloc::{AllocError, Global};
-use wasm_ast::{Body, BodyBuilder, Copied, Export, ExportKind, Instr, Items};
+use wasm_ast::{Body, BodyBuilder, Export, ExportKind, Items};
+use wat_spaces::{Names, Spaces, Unmeant, bound};
+use wat_syntax::{Exported, Reference, Simple};
 use wx_types::Bytes;
 
 /// An initial value or an offset.
-pub(crate) fn expression(alloc: Global, instr: &Instr) -> Result<Body, AllocError>
-    requires { NamesNone instr.now }
-    ensures { IfOk result (λ body. body ≡ expression instr.now) }
+pub(crate) fn expression(alloc: Global, constant: &Simple) -> Result<Body, AllocError>
+    ensures { IfOk result (λ body. body ≡ expression constant.now) }
 {
     let mut built = BodyBuilder::new(alloc)?;
-    built.plain(instr.copied(alloc)?)?;
+    built.plain(constant.instr(alloc)?)?;
     Ok(built.finish())
 }
 

@@ -1,29 +1,21 @@
 // The parts of fields added to a module: WebAssembly Core 1.0, section 6.6.
 ghost use Rattle.std.specs.Prelude.{◌≡◌, length, Some, IfOk, OnOk};
-ghost use Rattle.std.specs.List.{AllByRecursion};
 ghost use Rattle.std.specs.Option.{option_or, option_and_then};
-ghost use Rattle.wat_asm.specs.Flat.{seen_steps};
-ghost use Rattle.wat_asm.specs.Seen.{seen_use, seen_exported, seen_reference};
-ghost use Rattle.wat_asm.specs.Steps.{IsSimpleStep, type_for};
-ghost use Rattle.wat_asm.specs.Means.{Means, Becomes};
-ghost use Rattle.wat_asm.specs.Taken.{IsSimpleField, import_function_taken, import_taken, code_for, function_with, function_taken, taken};
+ghost use Rattle.wat_syntax.specs.Flat.{seen_steps};
+ghost use Rattle.wat_syntax.specs.Seen.{seen_use, seen_variables, seen_exported, seen_reference};
+ghost use Rattle.wat_meaning.specs.Steps.{type_for};
+ghost use Rattle.wat_spaces.specs.Means.{Means, Becomes};
+ghost use Rattle.wat_asm.specs.Taken.{import_function_taken, import_taken, code_for, function_with, function_taken, taken};
 
-use super::bindings::Bindings;
-use super::body_meaning::body_of;
-use super::field::Field;
-use super::function_parts::{groups_of, local_names, with_distinct};
 use super::module_parts::{add_exports, export_kind, expression, function_indices};
-use super::names::Names;
-use super::parsed::{ImportField, ImportOf, TypeUse};
-use super::spaces::Spaces;
-use super::steps::FunctionField;
-use super::type_uses::{type_found, type_index};
-use super::unmeant::{Unmeant, bound};
 use std::alloc::{AllocError, Global};
 use wasm_ast::{
     Code, Element, Export, ExportKind, FuncType, GlobalVar, Import, ImportKind, Items, Module,
     Segment,
 };
+use wat_meaning::{body_of, groups_of, local_names, with_distinct};
+use wat_spaces::{Bindings, Names, Spaces, Unmeant, bound, type_found, type_index};
+use wat_syntax::{Field, FunctionField, ImportField, ImportOf, TypeUse};
 use wx_types::Bytes;
 
 /// Adds an import of a function.
@@ -78,10 +70,10 @@ fn code_of(
     field: &FunctionField<'_>,
     of: &FuncType,
 ) -> Result<Code, Unmeant>
-    requires { AllByRecursion IsSimpleStep (seen_steps field.now.body.items) }
-    ensures { Means (λ c. c) result (code_for bindings.now field.now of.now) }
+    ensures { Means (λ c. c) result (code_for bindings.now of.now (seen_variables field.now.of.params.items) (seen_variables field.now.locals.items) (seen_steps field.now.body.items)) }
 {
-    let names = local_names(alloc, field, of)?;
+    let params = field.of.params.as_slice();
+    let names = local_names(alloc, of, params, field.locals.as_slice())?;
     let body = body_of(alloc, bindings, &names, field.body.as_slice())?;
     let locals = groups_of(alloc, field.locals.as_slice())?;
     Ok(Code { locals, body })
@@ -112,7 +104,6 @@ fn take_function(
     field: &FunctionField<'_>,
     made: &mut Module,
 ) -> Result<(), Unmeant>
-    requires { AllByRecursion IsSimpleStep (seen_steps field.now.body.items) }
     ensures { Becomes made.new result (option_and_then (function_taken bindings.now index field.now made.old) (type_for bindings.now (seen_use field.now.of))) }
 {
     let (of, found) = type_found(alloc, &bindings.names.types, &bindings.of, &field.of)?;
@@ -150,7 +141,6 @@ pub(crate) fn take(
     field: &Field<'_>,
     made: &mut Module,
 ) -> Result<(), Unmeant>
-    requires { IsSimpleField field.now }
     ensures { Becomes made.new result (taken bindings.now before.now field.now made.old) }
 {
     match field {

@@ -1,9 +1,9 @@
-use Rattle.std.proofs.Common.{◌≡◌, Err, sym, ◌∙◌, ap, subst}
+use Rattle.std.proofs.Common.{Err, sym, ◌∙◌, ap, subst}
 use Rattle.wat_tokens.specs.Tokens.{tokens}
 use Rattle.wat_tokens.specs.Reads.{Reads}
-use Rattle.wat_asm.specs.declared.fault.AsmKind.TheVariants as kind
 use Rattle.wat_asm.specs.Assembled.{fault, assembled, module_of_tokens}
 use Rattle.wat_asm.specs.Answers.{Answers}
+use Rattle.wat_asm.specs.declared.fault.AsmKind.TheVariants as kind
 use Rattle.wat_asm.proofs.assembler.assemble.Goals as goal
 
 pub returns-in-Ok : goal.returns-in-Ok

@@ -1,5 +1,0 @@
-use Rattle.wat_asm.proofs.NameMaps.{name_updated}
-use Rattle.wat_asm.proofs.labels.put.Goals as goal
-
-pub returns : goal.returns
-returns c = rw c.in_ok-name.ensures.items at (name_updated c.in_ok-name.name.items c.args.places.now c.insert.new.self _ c.in_ok-insert.ensures.updates)

@@ -1,0 +1,3 @@
+pub mod ExponentLemmas
+pub mod TableLemmas
+pub mod ImmediateLemmas

@@ -1,0 +1,3 @@
+pub mod PlainForms
+pub mod InstructionForms
+pub mod Rows
