@@ -59,23 +59,22 @@ class Reader:
         self.at += length
         return self.data[self.at - length : self.at]
 
-    def unsigned(self):
+    def leb128(self):
+        """The number that the bytes spell without a sign, how many bits that are, and their last byte."""
         value = shift = 0
         while True:
             byte = self.byte()
             value |= (byte & 0x7F) << shift
             shift += 7
             if byte < 0x80:
-                return value
+                return value, shift, byte
+
+    def unsigned(self):
+        return self.leb128()[0]
 
     def signed(self):
-        value = shift = 0
-        while True:
-            byte = self.byte()
-            value |= (byte & 0x7F) << shift
-            shift += 7
-            if byte < 0x80:
-                return value - (1 << shift) if byte & 0x40 else value
+        value, bits, last = self.leb128()
+        return value - (1 << bits) if last & 0x40 else value
 
     def name(self):
         return self.raw(self.unsigned()).decode("utf-8", "backslashreplace")
