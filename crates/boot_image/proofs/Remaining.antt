@@ -7,7 +7,7 @@ use Rattle.std.specs.Option.{option_and_then}
 use Rattle.byte_cursor.specs.declared.leb.CursorFault.{CursorFault}
 use Rattle.file_tree.specs.FileTree.{FileTree, only_root}
 use Rattle.boot_image.specs.Entries.{Entry, Content, Directory, File, magic, bytes_of, entry_bytes, Fits}
-use Rattle.boot_image.specs.Reading.{Next, Last, One, Other, next_at}
+use Rattle.boot_image.specs.NextItem.{Next, Last, One, Other, next_at}
 use Rattle.boot_image.specs.declared.read.Step.{Step}
 use Rattle.boot_image.specs.declared.read.Step.TheVariants.{Entry as EntryStep, Last as LastStep}
 use Rattle.boot_image.specs.declared.fault.ImageFault.{ImageFault}

@@ -1,5 +1,5 @@
 pub mod Entries
-pub mod Reading
+pub mod NextItem
 pub mod Image
 pub mod Answers
 pub mod Steps

@@ -2,8 +2,8 @@
 use Rattle.std.specs.Prelude.{◌≡◌, ℕ, ◌<◌, List, ◌∷◌, length, slice_index, Some, None, Result, Ok, Err}
 use Rattle.file_tree.specs.FileTree.{FileTree}
 use Rattle.boot_image.specs.Image.{Remains, with_entry}
-use Rattle.boot_image.specs.Reading as next
-use Rattle.boot_image.specs.Reading.{Next}
+use Rattle.boot_image.specs.NextItem as next
+use Rattle.boot_image.specs.NextItem.{Next}
 use Rattle.boot_image.specs.declared.read.Step.{Step}
 use Rattle.boot_image.specs.declared.read.Step.TheVariants.{Entry, Last}
 use Rattle.boot_image.specs.declared.fault.ImageFault.{ImageFault}

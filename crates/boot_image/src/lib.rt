@@ -3,10 +3,10 @@
 
 mod fault;
 mod found;
+mod item;
 mod laws;
 mod paths;
 mod read;
-mod reading;
 mod write;
 
 pub use fault::ImageFault;

@@ -2,12 +2,12 @@
 ghost use Rattle.boot_image.specs.Entries as format;
 ghost use Rattle.boot_image.specs.Image.{Image, Remains, with_entry};
 ghost use Rattle.boot_image.specs.Answers.{IsLeft, Means};
-ghost use Rattle.boot_image.specs.Reading.{seen};
+ghost use Rattle.boot_image.specs.NextItem.{seen};
 ghost use Rattle.boot_image.specs.Steps.{IsBytes, Goes, Makes};
 
 use crate::fault::ImageFault;
+use crate::item::{Item, next};
 use crate::paths::{plain_parts, without};
-use crate::reading::{Item, next};
 use byte_cursor::Cursor;
 use file_tree::Tree;
 use std::alloc::Global;

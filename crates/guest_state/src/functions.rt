@@ -3,14 +3,13 @@ ghost use Rattle.std.specs.Prelude.{◌≡◌, ◌+◌, ◌<◌, ◌^◌, if◌t
 ghost use Rattle.wasm_ast.specs.TypingModule.{functions_of, globals_of};
 ghost use Rattle.wasm_ast.specs.Locals.{total};
 ghost use Rattle.wasm_ast.specs.Position.{IsInstrAt, behind, remaining};
-ghost use Rattle.wasm_ast.specs.Table.{constant_value, instruction_constant};
 ghost use Rattle.guest_state.specs.Steps.{over_arguments, over_instruction};
 ghost use Rattle.guest_state.specs.Module.{body_of, own_function, type_of, further_locals, first_globals, param_count, result_count, first_value};
 
 use super::entries::OpenFrame;
 use std::alloc::{AllocError, Global};
 use wasm_ast::{
-    Body, FuncType, GlobalVar, Import, ImportKind, Instr, LocalGroup, Module, Position, ValType,
+    FuncType, GlobalVar, Import, ImportKind, Instr, LocalGroup, Module, Position, ValType,
 };
 
 /// How many of the imports are functions.
@@ -101,32 +100,11 @@ pub fn returns(module: &Module, function: u32) -> bool
     }
 }
 
-/// The number of a constant, and 0 of any other instruction.
-fn instruction_constant(instr: &Instr) -> u64
-    ensures { result ≡ instruction_constant instr.now }
-{
-    match instr {
-        Instr::I32Const(n) => n.cast_unsigned() as u64,
-        Instr::I64Const(n) => n.cast_unsigned(),
-        _ => 0,
-    }
-}
-
-/// The value of a constant expression, and 0 where it is that of another global.
-fn constant_value(init: &Body) -> u64
-    ensures { result ≡ constant_value init.now }
-{
-    match init.at(Position::start(0)) {
-        Some(instr) => instruction_constant(instr),
-        None => 0,
-    }
-}
-
 /// The first value of a global.
 fn first_value(global: &GlobalVar) -> u64
     ensures { result ≡ first_value global.now }
 {
-    let value = constant_value(&global.init);
+    let value = global.init.constant_value();
     match global.of {
         ValType::I32 | ValType::F32 => value % 0x1_0000_0000,
         ValType::I64 | ValType::F64 => value,

@@ -1,19 +1,8 @@
 -- The number of a call by the table.
-use Rattle.std.proofs.Common.{◌≡◌, ℕ, suc, true, false, ◌&&◌, List, [], ◌∷◌, length, if◌then◌else◌, Option, Some, None, option_and_then, find, refl, ap, ◌∙◌}
-use Rattle.wasm_ast.specs.declared.types.ValType.{ValType}
+use Rattle.std.proofs.Common.{◌≡◌, ℕ, true, false, List, if◌then◌else◌, Option, Some, None, option_and_then, find, refl, ap, ◌∙◌}
 use Rattle.wasm_ast.specs.declared.types.FuncType.{FuncType}
-use Rattle.wasm_ast.specs.Types.{same_type}
 use Rattle.wasm_ast.specs.Table.{same_types}
 use Rattle.instance.specs.Calls.{Call, calls, is_named, is_nosys, nosys_call, number_with_type, results_of, call_number}
-
--- lists of the same types are as long
-pub not_as_long : (ts us : List ValType) → (length ts ≡ length us → ⊥) → false ≡ same_types ts us
-not_as_long [] [] h = absurd (h refl)
-not_as_long [] (u ∷ us) h = refl
-not_as_long (t ∷ ts) [] h = refl
-not_as_long (t ∷ ts) (u ∷ us) h =
-    (elim (same_type t u) as (λ b. false ≡ (b && false)) [ true ↦ refl | false ↦ refl ])
-    ∙ ap (λ b. same_type t u && b) (not_as_long ts us (λ e. h (ap (λ n. suc n) e)))
 
 -- the number of the call that was found among the rows
 pub number_found : (from name : List ℕ) (of : FuncType) (rows : List Call) (found : Option Call) (number : Option ℕ) → false ≡ is_nosys from name → rows ≡ calls → found ≡ find (is_named from name) rows

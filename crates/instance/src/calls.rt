@@ -2,12 +2,11 @@
 ghost use Rattle.std.specs.Prelude.{◌≡◌, map, find, option_map};
 ghost use Rattle.std.specs.List.{list_any};
 ghost use Rattle.std.specs.Str.{bytes_eq};
-ghost use Rattle.wasm_ast.specs.Table.{same_types};
 ghost use Rattle.instance.specs.Calls.{calls, nosys_names, call_number, is_named, is_nosys, number_with_type, results_of};
 ghost use Rattle.instance.specs.Rows.{call_of_row};
 
 use wasm_ast::ValType::{I32, I64};
-use wasm_ast::{FuncType, ValType};
+use wasm_ast::{FuncType, ValType, same_types};
 
 /// The module of the calls of WASI preview 1.
 const PREVIEW1: &[u8] = b"wasi_snapshot_preview1";
@@ -141,21 +140,6 @@ fn nosys_names() -> [&'static [u8]; 17]
         b"sock_send",
         b"sock_shutdown",
     ]
-}
-
-/// Whether two lists of types are the same.
-pub fn same_types(types: &[ValType], others: &[ValType]) -> bool
-    ensures { result ≡ same_types types.now others.now }
-{
-    if types.len() != others.len() {
-        return false;
-    }
-    for i in 0..types.len() {
-        if !types[i].is(others[i]) {
-            return false;
-        }
-    }
-    true
 }
 
 /// The row of a module and a name, if there is one.

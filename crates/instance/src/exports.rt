@@ -4,10 +4,9 @@ ghost use Rattle.wasm_ast.specs.Table.{function_type};
 ghost use Rattle.instance.specs.Kept.{HasExports};
 ghost use Rattle.instance.specs.Program.{exported_function, exported_of_type, own_of_type, params_of};
 
-use crate::calls::same_types;
 use std::alloc::{AllocError, Global};
 use std::collections::BTreeMap;
-use wasm_ast::{Export, ExportKind as Exported, ValType};
+use wasm_ast::{Export, ExportKind as Exported, ValType, same_types};
 use wasm_validate::Valid;
 
 /// What an exported function is for. None of them gives a result.

@@ -1,7 +1,6 @@
 -- The rows of calls.
-use Rattle.std.proofs.Common.{◌≡◌, ℕ, suc, ◌+◌, ◌-◌, ◌<◌, ◌≤◌, List, [], ◌∷◌, length, drop, get_or, add-one, refl, sym, ap, ◌∙◌, arith, subst, Bool, true, false, ◌&&◌, Result, Ok, Err, Option, Some, None}
+use Rattle.std.proofs.Common.{◌≡◌, ℕ, ◌+◌, ◌-◌, ◌<◌, ◌≤◌, List, [], ◌∷◌, length, drop, refl, sym, ap, ◌∙◌, arith, subst, Bool, true, false, ◌&&◌, Result, Ok, Err, Option, Some, None}
 use Rattle.std.specs.Prelude.{slice_get, is_err, nat_lt, option_and_then, if◌then◌else◌}
-use Rattle.std.proofs.Math.Seq.{drop-cons}
 use Rattle.std.proofs.lemmas.Bool.Decides.{nat_tests}
 use Rattle.int_ops.specs.declared.trap.Cause.{Cause}
 use Rattle.int_ops.specs.declared.trap.Cause.TheVariants.{StackFull, TypeMismatch, UndefinedElement, UninitializedElement}
@@ -12,8 +11,7 @@ use Rattle.wasm_ast.specs.declared.position.Position.{Position}
 use Rattle.wasm_ast.specs.declared.types.FuncType.{FuncType}
 use Rattle.wasm_ast.specs.declared.types.ValType.{ValType}
 use Rattle.wasm_ast.specs.Sequence.{Sequence}
-use Rattle.wasm_ast.specs.Table.{function_type, last_put, same_function_type, same_types, table_size}
-use Rattle.wasm_ast.specs.Types.{same_type}
+use Rattle.wasm_ast.specs.Table.{function_type, last_put, same_function_type, table_size}
 use Rattle.wasm_ast.specs.TypingModule.{functions_of}
 use Rattle.guest_state.specs.GuestThread.{Frame, GuestThread, first_changed, in_frame}
 use Rattle.guest_state.specs.Module.{further_locals, param_count, type_of}
@@ -29,23 +27,6 @@ use Rattle.interp.specs.Rows.{Moves, call_row, left_at, of_first, row_of}
 use Rattle.interp.proofs.MemoryLemmas.{last_one}
 use Rattle.interp.proofs.ControlLemmas.{has_first}
 use Rattle.interp.proofs.RowLemmas.{behind_at}
-
--- ---- equal types
-
-both_false : (a b : Bool) → b ≡ false → (a && b) ≡ false
-both_false false b e = refl
-both_false true b e = e
-
-pub same_types_lengths : (ts us : List ValType) → (length ts ≡ length us → ⊥) → same_types ts us ≡ false
-same_types_lengths [] [] other = absurd (other refl)
-same_types_lengths [] (u ∷ us) other = refl
-same_types_lengths (t ∷ ts) [] other = refl
-same_types_lengths (t ∷ ts) (u ∷ us) other = both_false (same_type t u) (same_types ts us) (same_types_lengths ts us (λ e. other (ap suc e)))
-
-pub same_types_at : (ts us : List ValType) (i : ℕ) (t u : ValType) → i < length ts → i < length us → t ≡ get_or ts i t → u ≡ get_or us i u
-    → same_types (drop i ts) (drop i us) ≡ (same_type t u && same_types (drop (i + 1) ts) (drop (i + 1) us))
-same_types_at ts us i t u few less here there =
-    rw (drop-cons ts i t few, drop-cons us i u less, ← here, ← there, add-one i) refl
 
 -- ---- the function that an indirect call finds
 

@@ -3,7 +3,7 @@ ghost use Rattle.std.specs.Prelude.{◌≡◌, ◌+◌, ◌-◌, ◌<◌, ◌≤
 ghost use Rattle.linear_memory.specs.LinearMemory.{LinearMemory};
 ghost use Rattle.wasm_ast.specs.Sequence.{Sequence};
 ghost use Rattle.wasm_ast.specs.TypingModule.{functions_of};
-ghost use Rattle.wasm_ast.specs.Table.{function_type, same_function_type, same_types, table_size};
+ghost use Rattle.wasm_ast.specs.Table.{function_type, same_function_type, table_size};
 ghost use Rattle.wasm_ast.specs.declared.module.Module.{Module};
 ghost use Rattle.wasm_ast.specs.declared.position.Position.{Position};
 ghost use Rattle.guest_state.specs.GuestThread.{Frame, GuestThread, value_count};
@@ -17,23 +17,8 @@ ghost use Rattle.interp.specs.Stops.{stop_of};
 use crate::stop::{Reached, Stop};
 use guest_state::{MOST_VALUES, Thread};
 use int_ops::Cause;
-use wasm_ast::{FuncType, Instr, Module, Position, ValType};
+use wasm_ast::{FuncType, Instr, Module, Position, same_types};
 use wasm_validate::Valid;
-
-/// Whether two lists of types are equal.
-fn same_types(some: &[ValType], others: &[ValType]) -> bool
-    ensures { result ≡ same_types some.now others.now }
-{
-    if some.len() != others.len() {
-        return false;
-    }
-    for i in 0..some.len() {
-        if !some[i].is(others[i]) {
-            return false;
-        }
-    }
-    true
-}
 
 /// Whether two types of functions are equal.
 fn same_function_type(one: &FuncType, other: &FuncType) -> bool

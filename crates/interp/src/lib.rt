@@ -9,9 +9,9 @@ mod memory;
 mod numeric;
 mod plain;
 mod run;
-mod standing;
 mod step;
 mod stop;
+mod stop_at;
 mod thread;
 mod variable;
 

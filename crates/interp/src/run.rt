@@ -6,9 +6,9 @@ ghost use Rattle.guest_state.specs.Snapshot.{thread_of};
 ghost use Rattle.wasm_steps.specs.Step.{after, step};
 ghost use Rattle.interp.specs.Stops.{stop_of};
 
-use crate::standing::standing;
 use crate::step::step;
 use crate::stop::{Reached, Stop, Stopped};
+use crate::stop_at::stop_at;
 use guest_state::Thread;
 use int_ops::Cause;
 use linear_memory::Memory;
@@ -88,7 +88,7 @@ pub fn advance(
         }
         ran += 1;
     }
-    let stop = match standing(valid, memory, thread, list, place) {
+    let stop = match stop_at(valid, memory, thread, list, place) {
         Some(stop) => stop,
         None => Stop::Spent,
     };

@@ -3,8 +3,8 @@
 //! folder, which computes them with integers that have no bound.
 #![tactic(auto)]
 
+mod operands;
 mod operators;
-mod reading;
 mod value;
 
 use anyhow::{Context, Result};
@@ -35,8 +35,8 @@ fn print_reading(
     name: &str,
     digits: &str,
 ) -> Result<()> {
-    let bytes = reading::bytes_of(rt.alloc(), digits)?;
-    match reading::read(name, bytes.as_slice()) {
+    let bytes = operands::bytes_of(rt.alloc(), digits)?;
+    match operands::read(name, bytes.as_slice()) {
         Some(found) => println!(rt; "{row}: {found}")?,
         None => return Err(anyhow::anyhow!("no such reading")),
     }

@@ -22,7 +22,7 @@ use Rattle.kernel_core.specs.Kernel.{Kernel}
 use Rattle.file_tree.specs.Walk.{and_then}
 use Rattle.kernel_core.specs.Rows.{Answered, numbered, replied, unless_refused}
 use Rattle.kernel_core.proofs.Maps.{get-insert_other, get-insert_same}
-use Rattle.runner.specs.Standing.{WriteReply, write_reply}
+use Rattle.runner.specs.OneThread.{WriteReply, write_reply}
 
 abbrev t1 : Table
 t1 = insert empty 0 (descriptor 0 false)

@@ -1,4 +1,4 @@
 pub mod Console
-pub mod Turns
+pub mod OneThreadLeads
 pub mod Runs
 pub mod Slices

@@ -17,7 +17,7 @@ use Rattle.world_step.specs.World.{World}
 use Rattle.world_step.proofs.Going.{goes_on}
 use Rattle.wx_types.specs.declared.entries.Entry.{Entry}
 use Rattle.runner.specs.One.{BootsAs, EndsSo}
-use Rattle.runner.specs.Standing.{EndedBy, Enters, LeadsOn, StandsAt}
+use Rattle.runner.specs.OneThread.{EndedBy, Enters, LeadsOn, StandsAt}
 use Rattle.runner.specs.declared.one.End.{End}
 use Rattle.runner.specs.declared.one.End.TheVariants as end
 use Rattle.runner.specs.declared.one.Why.{Why}

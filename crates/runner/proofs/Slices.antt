@@ -22,7 +22,7 @@ use Rattle.wasm_steps.specs.Kept.{Awaits, IsMemory, Keeps}
 use Rattle.wasm_steps.specs.Step.{after, step}
 use Rattle.wasm_steps.specs.Stepped.{Stepped, Next, Trapped, AtCall, AtWait, AtNotify, Finished, Stuck}
 use Rattle.wasm_steps.proofs.Kept.{at_import, call_awaits, step_keeps}
-use Rattle.runner.specs.Standing.{Ran, StopsAs}
+use Rattle.runner.specs.OneThread.{Ran, StopsAs}
 
 ends_so : (m : Module) (s : Snapshot) (most ran : ℕ) (stopped : Stop) (stepped : Stepped) → any_waits m ≡ false → Keeps m (thread_of m s) stepped → stopped ≡ unwrap_or (stop_of stepped) stop.Spent → (stopped ≡ stop.Spent → ran ≡ most)
     → EndsSlice ran most stepped × StopsAs stepped stopped

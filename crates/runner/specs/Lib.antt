@@ -1,2 +1,2 @@
 pub mod One
-pub mod Standing
+pub mod OneThread

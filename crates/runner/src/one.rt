@@ -8,7 +8,7 @@ ghost use Rattle.instance.specs.Calls.{call_numbered, i32s, type_of_call};
 ghost use Rattle.instance.specs.Program.{first_memory, main_thread};
 ghost use Rattle.linear_memory.specs.LinearMemory.{LinearMemory};
 ghost use Rattle.runner.specs.One.{BootsAs, EndsSo};
-ghost use Rattle.runner.specs.Standing.{Enters, LeadsOn, Ran, StandsAt, end_entry, memory_after, reply_entry, reply_of, write_reply};
+ghost use Rattle.runner.specs.OneThread.{Enters, LeadsOn, Ran, StandsAt, end_entry, memory_after, reply_entry, reply_of, write_reply};
 ghost use Rattle.wasm_ast.specs.Table.{function_type};
 ghost use Rattle.wasm_steps.specs.Step.{step};
 ghost use Rattle.wasm_steps.specs.Stepped.{AtCall};

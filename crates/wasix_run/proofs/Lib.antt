@@ -1,4 +1,4 @@
 pub mod Printing
-pub mod Reading
+pub mod FileVerdicts
 pub mod PackLemmas
 pub mod Serving

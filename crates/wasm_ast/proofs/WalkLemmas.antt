@@ -11,7 +11,7 @@ use Rattle.wasm_ast.specs.Numbering.{in_front, sequence}
 use Rattle.wasm_ast.specs.Position.{sequence_at, IsList}
 use Rattle.wasm_ast.specs.Events.{Event, Instruction, Begin, Else, End, is_empty, events}
 use Rattle.wasm_ast.specs.Opened.{opened_by}
-use Rattle.wasm_ast.specs.Walk.{second_events, walk_events}
+use Rattle.wasm_ast.specs.Walk.{first_plain, second_events, walk_events}
 
 pub at_start : (s : Sequence) (is : List Instr) → IsList s 0 is → walk_events s is [] ≡ events s
 at_start s is l = append-nil (events (sequence (sequence_at s) is)) ∙ ap events (sym (l 0))
@@ -50,7 +50,7 @@ pub begin_next : (v : List Event) (s : Sequence) (i : Instr) (all is list : List
 begin_next v s i all is list os os' o outer w a p q l r t =
     sym w ∙ ap (λ js. walk_events s js (reverse os)) a ∙ into_list s i is list (reverse os) o outer q l r t ∙ ap (λ xs. Begin o.construct o.of ∷ walk_events s list xs) (sym (last_first os os' outer p))
 
-none_left : (is : List Instr) → length is ≡ 0 → is ≡ []
+pub none_left : (is : List Instr) → length is ≡ 0 → is ≡ []
 none_left [] h = refl
 none_left (i ∷ is) h = absurd (omega arith)
 
@@ -68,3 +68,12 @@ else_next v s all list os o outer m n b w a q h p e l r t d =
     let f = lasts os o outer m q h p in
     sym w ∙ ap (λ js. walk_events s js (reverse os)) (none_left all a) ∙ ap (walk_events s []) (last_first f.0 os o f.1) ∙ into_second s o outer (reverse f.0) n list e l r t
     ∙ ap (λ xs. Else (length list == 0) ∷ walk_events s list xs) (sym (last_first f.0 _ outer f.2)) ∙ ap (λ c. Else c ∷ walk_events s list (reverse (slice_set os (m - 1) outer))) (sym d)
+
+none_second : (s : Sequence) (second : Option ℕ) (es : List Event) → first_plain (second_events s second ++ (End ∷ es)) ≡ None
+none_second s None es = refl
+none_second s (Some n) es = refl
+
+-- no instruction comes at the end of a list
+pub none_plain : (s : Sequence) (os : List Outer) → first_plain (walk_events s [] os) ≡ None
+none_plain s [] = refl
+none_plain s (o ∷ os) = none_second s o.second _

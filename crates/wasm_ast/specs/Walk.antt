@@ -33,3 +33,8 @@ walk_events s is os = events (sequence (sequence_at s) is) ++ outer_events s os
 abbrev pub Follows : List Event → Option code.Event → List Event → Type 0
 Follows es None es' = es ≡ []
 Follows es (Some e) es' = es ≡ event_of e ∷ es'
+
+-- the instruction in front, if it has no inner instructions
+abbrev pub first_plain : List Event → Option Instr
+first_plain (Instruction i ∷ es) = Some i
+first_plain es = None

@@ -1,6 +1,7 @@
 // The instructions of a function or of an initial value, with their blocks.
 ghost use Rattle.std.specs.Prelude.{◌≡◌, ◌+◌, ◌<◌, ◌^◌, IfOk, IsSome, option_copied};
 ghost use Rattle.wasm_ast.specs.Position.{IsInstrAt, IsList};
+ghost use Rattle.wasm_ast.specs.Table.{constant_value};
 
 use super::instr::Instr;
 use super::items::Items;
@@ -68,6 +69,16 @@ impl Body {
         ensures room { IsSome result → position.index + 1 < 2 ^ 64 }
     {
         self.list(position.list).get(position.index)
+    }
+
+    /// The value of a constant expression as the bits of its type (4.5.3), and 0 where it is that of a global.
+    pub fn constant_value(&self) -> u64
+        ensures { result ≡ constant_value self.now }
+    {
+        match self.at(Position::start(0)) {
+            Some(instr) => instr.constant(),
+            None => 0,
+        }
     }
 
     /// An equal body. `AllocError` is want of memory and nothing else.

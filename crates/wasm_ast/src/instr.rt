@@ -1,5 +1,6 @@
 // Instructions: WebAssembly Core 1.0, section 2.4, and the threads proposal.
 ghost use Rattle.std.specs.Prelude.{◌≡◌, IfOk};
+ghost use Rattle.wasm_ast.specs.Table.{instruction_constant};
 
 use super::items::Copied;
 use super::types::{IntType, ValType};
@@ -283,6 +284,19 @@ pub enum Instr {
 
     /// Any instruction on floating-point numbers. Which one isn't kept.
     Float,
+}
+
+impl Instr {
+    /// The number of a constant as the bits of its type, and 0 of any other instruction.
+    pub fn constant(&self) -> u64
+        ensures { result ≡ instruction_constant self.now }
+    {
+        match self {
+            Instr::I32Const(n) => n.cast_unsigned() as u64,
+            Instr::I64Const(n) => n.cast_unsigned(),
+            _ => 0,
+        }
+    }
 }
 
 impl Copied for Instr {

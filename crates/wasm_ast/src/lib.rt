@@ -27,5 +27,5 @@ pub use module::{
 };
 pub use opcode::{ATOMIC_OPCODES, AtomicOpcode, OPCODES, Opcode, opcodes_are_encodings};
 pub use position::Position;
-pub use types::{FuncType, IntType, Limits, ValType};
+pub use types::{FuncType, IntType, Limits, ValType, same_types};
 pub use walk::{Event, Walk};

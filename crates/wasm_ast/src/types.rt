@@ -1,6 +1,7 @@
 // Types: WebAssembly Core 1.0, section 2.3.
 ghost use Rattle.std.specs.Prelude.{◌≡◌};
 ghost use Rattle.wasm_ast.specs.Types.{same_type};
+ghost use Rattle.wasm_ast.specs.Table.{same_types};
 
 use super::items::Items;
 
@@ -26,6 +27,21 @@ impl ValType {
                 | (ValType::F64, ValType::F64)
         )
     }
+}
+
+/// Whether two lists of types are the same.
+pub fn same_types(types: &[ValType], others: &[ValType]) -> bool
+    ensures { result ≡ same_types types.now others.now }
+{
+    if types.len() != others.len() {
+        return false;
+    }
+    for i in 0..types.len() {
+        if !types[i].is(others[i]) {
+            return false;
+        }
+    }
+    true
 }
 
 /// A value type of whole numbers, by which the integer instructions are named.

@@ -1,5 +1,5 @@
 // The text of a body from its start to its end: WebAssembly Core 1.0, section 2.4.
-ghost use Rattle.std.specs.Prelude.{◌≡◌, IfOk};
+ghost use Rattle.std.specs.Prelude.{◌≡◌, ◌∷◌, IfOk, IfSome, None};
 ghost use Rattle.wasm_ast.specs.Opened.{opened_by};
 
 use super::body::Body;
@@ -52,8 +52,8 @@ impl<'a> Model for Walk<'a> {
 }
 
 impl<'a> Walk<'a> {
-    ghost use Rattle.wasm_ast.specs.Events.{events};
-    ghost use Rattle.wasm_ast.specs.Walk.{Follows};
+    ghost use Rattle.wasm_ast.specs.Events.{events, Instruction};
+    ghost use Rattle.wasm_ast.specs.Walk.{Follows, first_plain};
 
     /// A walk at the start of a body. No memory is taken.
     pub fn new(alloc: Global, body: &'a Body) -> Walk<'a>
@@ -64,6 +64,21 @@ impl<'a> Walk<'a> {
             rest: body.list(0),
             outer: Vec::new(alloc),
         }
+    }
+
+    /// The instruction that comes next, if it has no inner instructions. Otherwise the walk stays where it is.
+    #[inline(always)]
+    pub fn plain(&mut self) -> Option<&'a Instr>
+        ensures taken { IfSome result (λ instr. self.old ≡ Instruction instr.now ∷ self.new) }
+        ensures left { result ≡ None → self.new ≡ self.old }
+        ensures none { result ≡ None → first_plain self.old ≡ None }
+    {
+        let (instr, rest) = self.rest.split_first()?;
+        if opened_by(instr).is_some() {
+            return None;
+        }
+        self.rest = rest;
+        Some(instr)
     }
 
     /// What comes next, if anything. `AllocError` is want of memory and nothing else; what comes next

@@ -1,6 +1,6 @@
 -- The typing of a body event by event, over the blocks that are open: the algorithm in the appendix of
 -- WebAssembly Core 1.0, section 7.3.
-use Rattle.std.specs.Prelude.{Bool, true, false, if◌then◌else◌, List, [], ◌∷◌, Option, Some, None, option_map, option_and_then, option_to_list}
+use Rattle.std.specs.Prelude.{◌≡◌, Bool, true, false, if◌then◌else◌, List, [], ◌∷◌, Option, Some, None, option_map, option_and_then, option_to_list}
 use Rattle.wasm_ast.specs.declared.types.ValType.{ValType}
 use Rattle.wasm_ast.specs.declared.types.ValType.TheVariants.{I32}
 use Rattle.wasm_ast.specs.declared.instr.BlockKind.TheVariants as kind
@@ -45,3 +45,8 @@ step c End v = at_end v
 abbrev pub behind : Context → List Event → Option OpenBlocks → Option OpenBlocks
 behind c [] v = v
 behind c (e ∷ es) v = behind c es (option_and_then (step c e) v)
+
+-- whether what comes next fits, if anything comes, and what then comes and is open
+abbrev pub Steps : Context → List Event → OpenBlocks → Option Bool → List Event → OpenBlocks → Type 0
+Steps c es v None es' w = (es ≡ []) × (w ≡ v)
+Steps c es v (Some fits) es' w = (e : Event) × (es ≡ e ∷ es') × (fitting fits w ≡ step c e v)

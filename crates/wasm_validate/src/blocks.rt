@@ -123,6 +123,7 @@ impl Blocks {
 
     /// Takes the last operands, which are to be of those types. In code that isn't reached it takes no
     /// longer than there are operands.
+    #[inline(always)]
     pub fn expect_all(&mut self, of: &[ValType]) -> bool
         ensures operands { ended result self.new.operands ≡ pop_operands of.now self.old.operands }
         ensures enclosing { self.new.enclosing ≡ self.old.enclosing }

@@ -5,7 +5,7 @@ ghost use Rattle.std.specs.Bool.{OnTrue};
 ghost use Rattle.wasm_ast.specs.Typing.{is_body, is_empty, leaves};
 ghost use Rattle.wasm_ast.specs.Walk.{event_of};
 ghost use Rattle.wasm_validate.specs.Context.{context};
-ghost use Rattle.wasm_validate.specs.Algorithm.{fitting, begun, at_else, at_end, step};
+ghost use Rattle.wasm_validate.specs.Algorithm.{Steps, fitting, begun, at_else, at_end, step};
 
 use super::blocks::Blocks;
 use super::context::Context;
@@ -19,15 +19,35 @@ impl Context<'_> {
     {
         let mut walk = Walk::new(alloc, body);
         let mut blocks = Blocks::new(alloc, self.result);
-        'events: while let Some(event) = walk.next()? {
-            if !self.step(&mut blocks, event)? {
+        'events: while let Some(fits) = self.next_step(&mut walk, &mut blocks)? {
+            if !fits {
                 return Ok(false);
             }
         }
         Ok(is_left(&mut blocks, self.result))
     }
 
+    /// Whether what comes next fits what came before it, if anything comes. Instructions without inner ones take a path of
+    /// their own, since most are such.
+    #[inline(always)]
+    fn next_step(
+        &self,
+        walk: &mut Walk<'_>,
+        blocks: &mut Blocks,
+    ) -> Result<Option<bool>, AllocError>
+        ensures { IfOk result (λ fits. Steps (context self.now) walk.old blocks.old fits walk.new blocks.new) }
+    {
+        if let Some(instr) = walk.plain() {
+            return Ok(Some(self.step(blocks, Event::Instruction(instr))?));
+        }
+        match walk.next()? {
+            None => Ok(None),
+            Some(event) => Ok(Some(self.step(blocks, event)?)),
+        }
+    }
+
     /// Whether an event fits what came before it.
+    #[inline(always)]
     fn step(&self, blocks: &mut Blocks, event: Event<'_>) -> Result<bool, AllocError>
         ensures { IfOk result (λ fits. fitting fits blocks.new ≡ step (context self.now) (event_of event.entry) blocks.old) }
     {

@@ -1,6 +1,6 @@
 // What the element segments put into the table: WebAssembly Core 1.0, 2.5.7 and 4.5.4.
 ghost use Rattle.std.specs.Prelude.{◌≡◌, ◌≤◌, ◌<◌, length, IfOk};
-ghost use Rattle.wasm_ast.specs.Table.{constant_value, global_value, instruction_constant, instruction_offset, last_put, offset_value, put_at};
+ghost use Rattle.wasm_ast.specs.Table.{global_value, instruction_offset, last_put, offset_value, put_at};
 ghost use Rattle.wasm_ast.specs.TypingModule.{globals_of};
 ghost use Rattle.wasm_validate.specs.Elements.{AreFirst, IsPutFrom, from_place};
 
@@ -10,27 +10,6 @@ use wasm_ast::{Body, Element, Instr, Module, Position, VariableOp};
 
 /// The most places of a table whose functions are kept.
 const MOST_PLACES: u64 = 65_536;
-
-/// The number of a constant, and 0 of any other instruction.
-fn instruction_constant(instr: &Instr) -> u64
-    ensures { result ≡ instruction_constant instr.now }
-{
-    match instr {
-        Instr::I32Const(n) => n.cast_unsigned() as u64,
-        Instr::I64Const(n) => n.cast_unsigned(),
-        _ => 0,
-    }
-}
-
-/// The value of a constant expression, and 0 where it is that of a global.
-fn constant_value(init: &Body) -> u64
-    ensures { result ≡ constant_value init.now }
-{
-    match init.at(Position::start(0)) {
-        Some(instr) => instruction_constant(instr),
-        None => 0,
-    }
-}
 
 /// The first value of a global, by its index, where so many globals are imported: 0 of these.
 fn global_value(module: &Module, imported: usize, index: u32) -> u64
@@ -42,7 +21,7 @@ fn global_value(module: &Module, imported: usize, index: u32) -> u64
         return 0;
     }
     match module.globals.as_slice().get(index - imported) {
-        Some(global) => constant_value(&global.init),
+        Some(global) => global.init.constant_value(),
         None => 0,
     }
 }
@@ -54,7 +33,7 @@ fn instruction_offset(module: &Module, imported: usize, instr: &Instr) -> u64
 {
     match instr {
         Instr::Variable(VariableOp::GlobalGet, index) => global_value(module, imported, *index),
-        other => instruction_constant(other),
+        other => other.constant(),
     }
 }
 

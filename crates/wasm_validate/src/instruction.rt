@@ -14,6 +14,7 @@ use wasm_ast::{Access, Instr, MemArg, NumericOp, Targets, ValType};
 impl Context<'_> {
     /// Gives what an instruction leaves of the operands, or says that it doesn't fit them. A block, a
     /// loop and an if have inner lists and aren't asked about.
+    #[inline(always)]
     pub fn after(&self, blocks: &mut Blocks, instr: &Instr) -> Result<bool, AllocError>
         ensures operands { IfOk result (λ fits. ended fits blocks.new.operands ≡ after (context self.now) (labels_of blocks.old.enclosing) instr.now blocks.old.operands) }
         ensures enclosing { blocks.new.enclosing ≡ blocks.old.enclosing }

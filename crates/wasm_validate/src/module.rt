@@ -101,9 +101,12 @@ impl Context<'_> {
     fn are_indices(&self, functions: &[u32]) -> bool
         ensures { result ≡ list_all (λ x. nat_lt x (length self.now.functions.now)) functions.now }
     {
-        functions
-            .iter()
-            .all(|function| (*function as usize) < self.functions.len())
+        for function in functions {
+            if *function as usize >= self.functions.len() {
+                return false;
+            }
+        }
+        true
     }
 
     /// Whether a table may have such a segment (3.4.5).

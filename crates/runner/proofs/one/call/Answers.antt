@@ -10,7 +10,7 @@ use Rattle.wasm_ast.specs.declared.module.Module.{Module}
 use Rattle.wasm_steps.specs.Kept.{IsMemory}
 use Rattle.wasm_steps.proofs.Kept.{at_import}
 use Rattle.runner.proofs.Slices.{awaits_call}
-use Rattle.runner.proofs.Turns.{as_leads, built_exit, exit_leads, write_leads}
+use Rattle.runner.proofs.OneThreadLeads.{as_leads, built_exit, exit_leads, write_leads}
 use Rattle.runner.proofs.one.call.Goals as goal
 
 pub arguments-requires : goal.arguments-requires

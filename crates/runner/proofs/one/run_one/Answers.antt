@@ -8,7 +8,7 @@ use Rattle.world_step.specs.Boot.{boot_world}
 use Rattle.world_step.specs.Journal.{IsJournal}
 use Rattle.world_step.specs.Run.{EndsAs}
 use Rattle.wx_types.specs.declared.entries.Entry.{Entry}
-use Rattle.runner.specs.Standing.{StandsAt}
+use Rattle.runner.specs.OneThread.{StandsAt}
 use Rattle.runner.proofs.Runs.{boot_stands, none_runs, starts_main}
 use Rattle.runner.proofs.one.run_one.Goals as goal
 

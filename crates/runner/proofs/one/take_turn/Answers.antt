@@ -1,8 +1,8 @@
 use Rattle.std.proofs.Common.{◌≤◌, ◌-◌, sym, subst, ◌∙◌, arith}
 use Rattle.std.proofs.lemmas.Bool.{eq-eqb, ne_eqb}
 use Rattle.guest_state.specs.Snapshot.{thread_of}
-use Rattle.runner.specs.Standing.{LeadsOn, reply_entry}
-use Rattle.runner.proofs.Turns.{as_turn, fuel_leads, return_leads, spent_leads, trap_leads}
+use Rattle.runner.specs.OneThread.{LeadsOn, reply_entry}
+use Rattle.runner.proofs.OneThreadLeads.{as_turn, fuel_leads, return_leads, spent_leads, trap_leads}
 use Rattle.runner.proofs.one.take_turn.Goals as goal
 
 pub returns-then-ran-left-clause-leads : goal.returns-then-ran-left-clause-leads

@@ -4,7 +4,7 @@ use Rattle.wat_asm.specs.Assembled.{assembled}
 use Rattle.wasix_run.specs.Verdict.{Verdict}
 use Rattle.wasix_run.specs.Judging.{text_limit, assembled_verdict}
 use Rattle.wasix_run.specs.Loading.{WritesAs}
-use Rattle.wasix_run.proofs.Reading.{file_read}
+use Rattle.wasix_run.proofs.FileVerdicts.{file_read}
 use Rattle.wasix_run.proofs.asm.module_bytes.Goals as goal
 
 pub returns-in-Ok-clause-told : goal.returns-in-Ok-clause-told

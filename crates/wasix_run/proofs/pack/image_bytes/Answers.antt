@@ -3,7 +3,7 @@ use Rattle.pack_list.specs.Judging.{judge}
 use Rattle.wasix_run.specs.Verdict.{Verdict, Writes}
 use Rattle.wasix_run.specs.Packing.{list_judged}
 use Rattle.wasix_run.specs.Loading.{StopsAs}
-use Rattle.wasix_run.proofs.Reading.{list_unread, list_is}
+use Rattle.wasix_run.proofs.FileVerdicts.{list_unread, list_is}
 use Rattle.wasix_run.proofs.pack.image_bytes.Goals as goal
 
 pub returns-in-Err-clause-told : goal.returns-in-Err-clause-told

@@ -4,7 +4,7 @@ use Rattle.wasm_ast.specs.Position.{next, sequence_at}
 use Rattle.guest_state.specs.Snapshot.{innermost_body}
 use Rattle.interp.specs.Stops.{stop_of}
 use Rattle.interp.proofs.StepLemmas.{IsPlain, block_step, br_if_quiet, br_quiet, br_table_quiet, end_quiet, if_change, indirect_ready, is_plain, loop_step, plain_front, plain_ready, plain_step, return_quiet, row_moves}
-use Rattle.interp.proofs.standing.standing.Goals as goal
+use Rattle.interp.proofs.stop_at.stop_at.Goals as goal
 
 pub call_stop-requires-clause-moves : goal.call_stop-requires-clause-moves
 call_stop-requires-clause-moves c =

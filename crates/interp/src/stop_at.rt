@@ -144,7 +144,7 @@ fn plain_stop(memory: &Memory, thread: &Thread, instr: &Instr) -> Option<Stop>
 }
 
 /// What a thread stands at that stands at a place of a list, if not a step.
-pub fn standing(
+pub fn stop_at(
     valid: &Valid,
     memory: &Memory,
     thread: &Thread,

@@ -4,7 +4,7 @@ use Rattle.guest_state.specs.Snapshot.{locals_of}
 use Rattle.interp.specs.Rows.{left_at}
 use Rattle.interp.specs.Stops.{stop_of}
 use Rattle.interp.proofs.VariableLemmas.{local_row}
-use Rattle.interp.proofs.standing.variable_stop.Goals as goal
+use Rattle.interp.proofs.stop_at.variable_stop.Goals as goal
 
 pub returns-in-LocalGet : goal.returns-in-LocalGet
 returns-in-LocalGet c m memory place next =

@@ -1,4 +1,4 @@
-use Rattle.interp.proofs.standing.plain_stop.Goals as goal
+use Rattle.interp.proofs.stop_at.plain_stop.Goals as goal
 
 pub returns-in-MemorySize : goal.returns-in-MemorySize
 returns-in-MemorySize c m place next = rw c.in-MemorySize.is (c.push_stop.ensures m c.args.memory.now place next _)

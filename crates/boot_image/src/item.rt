@@ -1,7 +1,7 @@
 // What stands next in an image.
 ghost use Rattle.std.specs.Prelude.{◌≡◌, Result};
 ghost use Rattle.std.specs.Int.{w16, w32};
-ghost use Rattle.boot_image.specs.Reading.{Reads, seen, sized_at, directory_at, file_at, next_at};
+ghost use Rattle.boot_image.specs.NextItem.{Reads, seen, sized_at, directory_at, file_at, next_at};
 
 use byte_cursor::{Cursor, CursorFault};
 
@@ -19,7 +19,7 @@ pub enum Item<'a> {
 }
 
 // a path behind its length
-#[tactic(auto, unfolding(crate::specs::Reading::sized_at))]
+#[tactic(auto, unfolding(crate::specs::NextItem::sized_at))]
 fn path<'a>(cursor: &mut Cursor<'a>) -> Result<&'a [u8], CursorFault>
     ensures { Reads (λ path. path.now) result cursor.new (sized_at w16 cursor.old) }
 {
@@ -28,7 +28,7 @@ fn path<'a>(cursor: &mut Cursor<'a>) -> Result<&'a [u8], CursorFault>
 }
 
 // a file's bytes behind their length
-#[tactic(auto, unfolding(crate::specs::Reading::sized_at))]
+#[tactic(auto, unfolding(crate::specs::NextItem::sized_at))]
 fn content<'a>(cursor: &mut Cursor<'a>) -> Result<&'a [u8], CursorFault>
     ensures { Reads (λ bytes. bytes.now) result cursor.new (sized_at w32 cursor.old) }
 {
@@ -36,14 +36,14 @@ fn content<'a>(cursor: &mut Cursor<'a>) -> Result<&'a [u8], CursorFault>
     cursor.take(len as usize)
 }
 
-#[tactic(auto, unfolding(crate::specs::Reading::directory_at))]
+#[tactic(auto, unfolding(crate::specs::NextItem::directory_at))]
 fn directory<'a>(cursor: &mut Cursor<'a>) -> Result<Item<'a>, CursorFault>
     ensures { Reads seen result cursor.new (directory_at cursor.old) }
 {
     Ok(Item::Directory(path(cursor)?))
 }
 
-#[tactic(auto, unfolding(crate::specs::Reading::file_at))]
+#[tactic(auto, unfolding(crate::specs::NextItem::file_at))]
 fn file<'a>(cursor: &mut Cursor<'a>) -> Result<Item<'a>, CursorFault>
     ensures { Reads seen result cursor.new (file_at cursor.old) }
 {
@@ -53,7 +53,7 @@ fn file<'a>(cursor: &mut Cursor<'a>) -> Result<Item<'a>, CursorFault>
 }
 
 /// What stands at the front of the bytes that are left. A fault comes exactly where they end within it.
-#[tactic(auto, unfolding(crate::specs::Reading::next_at))]
+#[tactic(auto, unfolding(crate::specs::NextItem::next_at))]
 pub fn next<'a>(cursor: &mut Cursor<'a>) -> Result<Item<'a>, CursorFault>
     ensures { Reads seen result cursor.new (next_at cursor.old) }
 {

@@ -37,7 +37,7 @@ use Rattle.wx_types.specs.declared.entries.Outcome.TheVariants.{Reply, Ended as 
 use Rattle.wx_types.specs.declared.entries.Place.{Place}
 use Rattle.wx_types.specs.declared.entries.Place.TheVariants.{Nowhere}
 use Rattle.wx_types.specs.declared.requests.Request.{Request}
-use Rattle.runner.specs.Standing.{LeadsOn, Ran, StandsAt, StopsAs, WriteReply, end_entry, memory_after, reply_entry, reply_of}
+use Rattle.runner.specs.OneThread.{LeadsOn, Ran, StandsAt, StopsAs, WriteReply, end_entry, memory_after, reply_entry, reply_of}
 use Rattle.runner.specs.declared.one.End.{End as Ended}
 use Rattle.runner.specs.declared.one.End.TheVariants as end
 use Rattle.instance.specs.Links.{is_built}

@@ -5,8 +5,8 @@ use Rattle.byte_cursor.specs.declared.leb.CursorFault.{CursorFault}
 use Rattle.byte_cursor.specs.declared.leb.CursorFault.TheVariants.{End}
 use Rattle.byte_cursor.specs.ReadNumbers.{and_then, fixed_at, span_at}
 use Rattle.boot_image.specs.Entries.{Entry, Directory, File}
-use Rattle.boot_image.specs.declared.reading.Item.{Item}
-use Rattle.boot_image.specs.declared.reading.Item.TheVariants as items
+use Rattle.boot_image.specs.declared.item.Item.{Item}
+use Rattle.boot_image.specs.declared.item.Item.TheVariants as items
 
 -- the byte that ends the entries, an entry, or a byte that begins neither
 pub data Next : Type 0 where
