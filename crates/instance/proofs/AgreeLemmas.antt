@@ -12,7 +12,7 @@ use Rattle.instance.specs.Program.{Program}
 use Rattle.instance.specs.Links.{linked}
 use Rattle.instance.specs.Loads.{IsUnlessMemory, Links, Loads}
 
-abbrev Answer : Type 0
+abbrev pub Answer : Type 0
 Answer = Result Program LoadFault
 
 abbrev Decoded : Type 0

@@ -2,7 +2,7 @@
 use Rattle.std.proofs.Common.{◌≡◌, ℕ, zero, suc, ◌≤◌, Bool, true, false, not, ◌&&◌, ◌||◌, cond, if◌then◌else◌, List, [], ◌∷◌, ◌++◌, Option, Some, None, option_and_then, is_some, find, filter_map, refl, sym, ap, arith, ◌∙◌, length, ◌<◌}
 use Rattle.std.specs.Prelude.{slice_get, IfSome, IsSome}
 use Rattle.std.specs.List.{cons_option, list_all, list_any}
-use Rattle.std.proofs.lemmas.Bool.{and_parts, ltb-false}
+use Rattle.std.proofs.lemmas.Bool.{and_parts, or_parts, ltb-false}
 use Rattle.wasm_ast.specs.declared.types.ValType.{ValType}
 use Rattle.wasm_ast.specs.declared.types.FuncType.{FuncType}
 use Rattle.wasm_ast.specs.declared.types.Limits.{Limits}
@@ -126,10 +126,6 @@ none_nothing m f is (i ∷ rest) h x o type e =
     function_links m f is i.module i.name i.kind (functions_of rest) x o parts.0 type (λ y e'. none_nothing m f is rest parts.1 y o type e') e
 
 -- ---- limits that a module keeps
-
-or_parts : (a b : Bool) → (a || b) ≡ false → (a ≡ false) × (b ≡ false)
-or_parts true b h = absurd (cc)
-or_parts false b h = (refl, h)
 
 none_passed : (a b c d e f : Bool) → (if a then Some Types else (if b then Some Functions else (if c then Some Locals else (if d then Some Nesting else (if e then Some Table else (if f then Some Pages else None)))))) ≡ None → (c ≡ false) × (f ≡ false)
 none_passed true b c d e f h = absurd (cc)

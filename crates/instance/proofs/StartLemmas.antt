@@ -1,7 +1,7 @@
 -- The functions with which a linked module begins.
-use Rattle.std.proofs.Common.{◌≡◌, ℕ, zero, suc, ◌+◌, ◌-◌, ◌<◌, ◌≤◌, Bool, true, false, ◌&&◌, ◌||◌, List, [], ◌∷◌, ◌++◌, length, Option, Some, None, Ok, option_and_then, refl, sym, ap, subst, ◌∙◌, arith, ⊎_elim}
+use Rattle.std.proofs.Common.{◌≡◌, ℕ, zero, suc, ◌+◌, ◌-◌, ◌<◌, ◌≤◌, Bool, true, false, ◌&&◌, List, [], ◌∷◌, ◌++◌, length, Option, Some, None, Ok, option_and_then, refl, sym, ap, subst, ◌∙◌, arith, ⊎_elim}
 use Rattle.std.specs.Prelude.{slice_get, nat_le, nat_lt, unwrap_or}
-use Rattle.std.proofs.lemmas.Bool.{and_parts, leb-true, ltb-false, cases_lt}
+use Rattle.std.proofs.lemmas.Bool.{and_parts, or_parts, leb-true, ltb-false, cases_lt}
 use Rattle.std.proofs.lemmas.List.{length-replicate}
 use Rattle.std.proofs.lemmas.Option.{cond_some}
 use Rattle.wasm_ast.specs.declared.types.ValType.{ValType}
@@ -43,10 +43,6 @@ coded c [] codes n o all e = absurd (cc)
 coded c (of ∷ ofs) [] n o all e = absurd (cc)
 coded c (of ∷ ofs) (code ∷ codes) zero o all e = (code, refl)
 coded c (of ∷ ofs) (code ∷ codes) (suc n) o all e = coded c ofs codes n o (and_parts (is_function_of c code (slice_get c.types of)) (are_functions c ofs codes) all).1 e
-
-or_parts : (a b : Bool) → (a || b) ≡ false → (a ≡ false) × (b ≡ false)
-or_parts true b h = absurd (cc)
-or_parts false b h = (refl, h)
 
 few : (c : Context) (types : List FuncType) (ofs : List ℕ) (codes : List Code) (n : ℕ) (code : Code) → are_functions c ofs codes ≡ true → any_has_many types ofs codes ≡ false → slice_get codes n ≡ Some code
     → total code.locals ≤ 8192

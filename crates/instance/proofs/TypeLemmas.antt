@@ -85,10 +85,8 @@ number_type a b of n built is = by (is_nosys a b) is where
 -- ---- the function of that index
 
 -- an imported function has a type, which is that of its call
-pub record HasItsType (m : Module) (is : List Import) (x n : ℕ) : Type 0 where
-  pub of : ℕ
-  pub there : slice_get (functions_of is) x ≡ Some of
-  pub its : slice_get m.types of ≡ option_map type_of_call (call_numbered n)
+abbrev HasItsType : Module → List Import → ℕ → ℕ → Type 0
+HasItsType m is x n = (of : ℕ) × (slice_get (functions_of is) x ≡ Some of) × (slice_get m.types of ≡ option_map type_of_call (call_numbered n))
 
 function_typed : (m : Module) (a b : List ℕ) (of : ℕ) (type : Option FuncType) (is : List Import) (x n : ℕ) → slice_get m.types of ≡ type → (is_some (option_and_then (call_number a b) type) || false) ≡ true → is_built n ≡ true
     → ((y : ℕ) → slice_get (filter_map (import_call m) is) y ≡ Some n → HasItsType m is y n) → slice_get (cons_option (option_and_then (call_number a b) type) (filter_map (import_call m) is)) x ≡ Some n
@@ -100,16 +98,16 @@ function_typed m a b of (Some f) is x n was links built later at = by (call_numb
   by None e some x at = absurd (cc)
   by (Some k) e some zero at =
       let same : Some k ≡ Some n = at in
-      record { of = of; there = refl; its = was ∙ number_type a b f n built (e ∙ same) }
-  by (Some k) e some (suc x) at = let more = later x at in record { of = more.of; there = more.there; its = more.its }
+      (of, refl, was ∙ number_type a b f n built (e ∙ same))
+  by (Some k) e some (suc x) at = later x at
 
 kind_typed : (m : Module) (a b : List ℕ) (k : ImportKind) (is : List Import) (x n : ℕ) → import_links m (record { «module» = a; name = b; kind = k }) ≡ true → is_built n ≡ true
     → ((y : ℕ) → slice_get (filter_map (import_call m) is) y ≡ Some n → HasItsType m is y n) → slice_get (filter_map (import_call m) (record { «module» = a; name = b; kind = k } ∷ is)) x ≡ Some n
     → HasItsType m (record { «module» = a; name = b; kind = k } ∷ is) x n
 kind_typed m a b (imported.Func of) is x n links built later at = function_typed m a b of (slice_get m.types of) is x n refl links built later at
-kind_typed m a b (imported.Table limits) is x n links built later at = let more = later x at in record { of = more.of; there = more.there; its = more.its }
-kind_typed m a b (imported.Memory limits) is x n links built later at = let more = later x at in record { of = more.of; there = more.there; its = more.its }
-kind_typed m a b (imported.Global of mutable) is x n links built later at = let more = later x at in record { of = more.of; there = more.there; its = more.its }
+kind_typed m a b (imported.Table limits) is x n links built later at = later x at
+kind_typed m a b (imported.Memory limits) is x n links built later at = later x at
+kind_typed m a b (imported.Global of mutable) is x n links built later at = later x at
 
 has_its_type : (m : Module) (is : List Import) (x n : ℕ) → list_all (import_links m) is ≡ true → is_built n ≡ true → slice_get (filter_map (import_call m) is) x ≡ Some n → HasItsType m is x n
 has_its_type m [] x n links built at = absurd (cc)
@@ -126,7 +124,7 @@ pub import_type : (m : Module) (x n : ℕ) → list_all (import_links m) m.impor
     → function_type m x ≡ option_map type_of_call (call_numbered n)
 import_type m x n links built at =
     let h = has_its_type m m.imports x n links built at in
-    ap (option_and_then (slice_get m.types)) (got_first (functions_of m.imports) m.functions x h.of h.there) ∙ h.its
+    ap (option_and_then (slice_get m.types)) (got_first (functions_of m.imports) m.functions x h.0 h.1) ∙ h.2
 
 -- the same of a number that may be there
 pub import_types : (m : Module) (numbers : List ℕ) (x : ℕ) → list_all (import_links m) m.imports ≡ true → numbers ≡ filter_map (import_call m) m.imports

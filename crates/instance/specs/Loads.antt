@@ -36,3 +36,8 @@ LoadOrFail = (bytes : List ℕ) (program : Program) (fault : LoadFault) → Load
 -- that answer, or want of memory
 abbrev pub IsUnlessMemory : Result Program LoadFault → Result Program LoadFault → Type 0
 IsUnlessMemory result answer = (result ≡ answer) ⊎ (result ≡ Err Memory)
+
+-- the answer with that program where there is none of its faults
+abbrev pub answer_of : {X : Type 0} → Program → Result X LoadFault → Result Program LoadFault
+answer_of program (Ok x) = Ok program
+answer_of program (Err fault) = Err fault

@@ -19,127 +19,132 @@ const NOSYS: u16 = 8;
 
 /// A call: the module and the name by which it is imported, its number, the types of its parameters, and whether it
 /// gives an i32.
-#[derive(Clone, Copy)]
 struct Row(&'static [u8], &'static [u8], u16, &'static [ValType], bool);
 
 /// The calls with their types.
-fn rows() -> [Row; 51]
-    ensures { map call_of_row result ≡ calls }
-{
-    [
-        Row(PREVIEW1, b"args_sizes_get", 10, &[I32, I32], true),
-        Row(PREVIEW1, b"args_get", 11, &[I32, I32], true),
-        Row(PREVIEW1, b"environ_sizes_get", 12, &[I32, I32], true),
-        Row(PREVIEW1, b"environ_get", 13, &[I32, I32], true),
-        Row(PREVIEW1, b"clock_time_get", 14, &[I32, I64, I32], true),
-        Row(PREVIEW1, b"fd_close", 15, &[I32], true),
-        Row(PREVIEW1, b"fd_read", 16, &[I32, I32, I32, I32], true),
-        Row(PREVIEW1, b"fd_write", 17, &[I32, I32, I32, I32], true),
-        Row(PREVIEW1, b"fd_pread", 18, &[I32, I32, I32, I64, I32], true),
-        Row(PREVIEW1, b"fd_pwrite", 19, &[I32, I32, I32, I64, I32], true),
-        Row(PREVIEW1, b"fd_seek", 20, &[I32, I64, I32, I32], true),
-        Row(PREVIEW1, b"fd_tell", 21, &[I32, I32], true),
-        Row(PREVIEW1, b"fd_fdstat_get", 22, &[I32, I32], true),
-        Row(PREVIEW1, b"fd_fdstat_set_flags", 23, &[I32, I32], true),
-        Row(PREVIEW1, b"fd_filestat_get", 24, &[I32, I32], true),
-        Row(PREVIEW1, b"fd_filestat_set_size", 25, &[I32, I64], true),
-        Row(PREVIEW1, b"fd_prestat_get", 26, &[I32, I32], true),
-        Row(PREVIEW1, b"fd_prestat_dir_name", 27, &[I32, I32, I32], true),
-        Row(
-            PREVIEW1,
-            b"fd_readdir",
-            28,
-            &[I32, I32, I32, I64, I32],
-            true,
-        ),
-        Row(PREVIEW1, b"fd_renumber", 29, &[I32, I32], true),
-        Row(
-            PREVIEW1,
-            b"path_open",
-            30,
-            &[I32, I32, I32, I32, I32, I64, I64, I32, I32],
-            true,
-        ),
-        Row(
-            PREVIEW1,
-            b"path_create_directory",
-            31,
-            &[I32, I32, I32],
-            true,
-        ),
-        Row(PREVIEW1, b"path_unlink_file", 32, &[I32, I32, I32], true),
-        Row(
-            PREVIEW1,
-            b"path_remove_directory",
-            33,
-            &[I32, I32, I32],
-            true,
-        ),
-        Row(
-            PREVIEW1,
-            b"path_rename",
-            34,
-            &[I32, I32, I32, I32, I32, I32],
-            true,
-        ),
-        Row(
-            PREVIEW1,
-            b"path_filestat_get",
-            35,
-            &[I32, I32, I32, I32, I32],
-            true,
-        ),
-        Row(PREVIEW1, b"poll_oneoff", 36, &[I32, I32, I32, I32], true),
-        Row(PREVIEW1, b"proc_exit", 37, &[I32], false),
-        Row(PREVIEW1, b"sched_yield", 38, &[], true),
-        Row(WASIX, b"fd_dup", 50, &[I32, I32], true),
-        Row(WASIX, b"fd_pipe", 51, &[I32, I32], true),
-        Row(WASIX, b"wx_fd_cloexec", 52, &[I32, I32], true),
-        Row(WASIX, b"getcwd", 53, &[I32, I32, I32], true),
-        Row(WASIX, b"chdir", 54, &[I32, I32], true),
-        Row(WASIX, b"proc_id", 55, &[I32], true),
-        Row(WASIX, b"proc_parent", 56, &[I32], true),
-        Row(WASIX, b"proc_fork", 57, &[I32], true),
-        Row(WASIX, b"proc_exec", 58, &[I32, I32, I32, I32], true),
-        Row(WASIX, b"proc_spawn", 59, &[I32, I32, I32, I32, I32], true),
-        Row(WASIX, b"proc_join", 60, &[I32, I32, I32], true),
-        Row(WASIX, b"proc_signal", 61, &[I32, I32], true),
-        Row(WASIX, b"thread_spawn", 62, &[I32, I32], true),
-        Row(WASIX, b"thread_id", 63, &[I32], true),
-        Row(WASIX, b"thread_join", 64, &[I32], true),
-        Row(WASIX, b"thread_exit", 65, &[I32], false),
-        Row(WASIX, b"thread_sleep", 66, &[I64], true),
-        Row(WASIX, b"futex_wait", 67, &[I32, I32, I64, I32], true),
-        Row(WASIX, b"futex_wake", 68, &[I32, I32, I32], true),
-        Row(WASIX, b"callback_signal", 69, &[I32, I32], true),
-        Row(WASIX, b"wx_sig_action", 70, &[I32, I32], true),
-        Row(WASIX, b"wx_sig_mask", 71, &[I32, I64, I32], true),
-    ]
-}
+static CALLS: [Row; 51] = [
+    Row(PREVIEW1, b"args_sizes_get", 10, &[I32, I32], true),
+    Row(PREVIEW1, b"args_get", 11, &[I32, I32], true),
+    Row(PREVIEW1, b"environ_sizes_get", 12, &[I32, I32], true),
+    Row(PREVIEW1, b"environ_get", 13, &[I32, I32], true),
+    Row(PREVIEW1, b"clock_time_get", 14, &[I32, I64, I32], true),
+    Row(PREVIEW1, b"fd_close", 15, &[I32], true),
+    Row(PREVIEW1, b"fd_read", 16, &[I32, I32, I32, I32], true),
+    Row(PREVIEW1, b"fd_write", 17, &[I32, I32, I32, I32], true),
+    Row(PREVIEW1, b"fd_pread", 18, &[I32, I32, I32, I64, I32], true),
+    Row(PREVIEW1, b"fd_pwrite", 19, &[I32, I32, I32, I64, I32], true),
+    Row(PREVIEW1, b"fd_seek", 20, &[I32, I64, I32, I32], true),
+    Row(PREVIEW1, b"fd_tell", 21, &[I32, I32], true),
+    Row(PREVIEW1, b"fd_fdstat_get", 22, &[I32, I32], true),
+    Row(PREVIEW1, b"fd_fdstat_set_flags", 23, &[I32, I32], true),
+    Row(PREVIEW1, b"fd_filestat_get", 24, &[I32, I32], true),
+    Row(PREVIEW1, b"fd_filestat_set_size", 25, &[I32, I64], true),
+    Row(PREVIEW1, b"fd_prestat_get", 26, &[I32, I32], true),
+    Row(PREVIEW1, b"fd_prestat_dir_name", 27, &[I32, I32, I32], true),
+    Row(
+        PREVIEW1,
+        b"fd_readdir",
+        28,
+        &[I32, I32, I32, I64, I32],
+        true,
+    ),
+    Row(PREVIEW1, b"fd_renumber", 29, &[I32, I32], true),
+    Row(
+        PREVIEW1,
+        b"path_open",
+        30,
+        &[I32, I32, I32, I32, I32, I64, I64, I32, I32],
+        true,
+    ),
+    Row(
+        PREVIEW1,
+        b"path_create_directory",
+        31,
+        &[I32, I32, I32],
+        true,
+    ),
+    Row(PREVIEW1, b"path_unlink_file", 32, &[I32, I32, I32], true),
+    Row(
+        PREVIEW1,
+        b"path_remove_directory",
+        33,
+        &[I32, I32, I32],
+        true,
+    ),
+    Row(
+        PREVIEW1,
+        b"path_rename",
+        34,
+        &[I32, I32, I32, I32, I32, I32],
+        true,
+    ),
+    Row(
+        PREVIEW1,
+        b"path_filestat_get",
+        35,
+        &[I32, I32, I32, I32, I32],
+        true,
+    ),
+    Row(PREVIEW1, b"poll_oneoff", 36, &[I32, I32, I32, I32], true),
+    Row(PREVIEW1, b"proc_exit", 37, &[I32], false),
+    Row(PREVIEW1, b"sched_yield", 38, &[], true),
+    Row(WASIX, b"fd_dup", 50, &[I32, I32], true),
+    Row(WASIX, b"fd_pipe", 51, &[I32, I32], true),
+    Row(WASIX, b"wx_fd_cloexec", 52, &[I32, I32], true),
+    Row(WASIX, b"getcwd", 53, &[I32, I32, I32], true),
+    Row(WASIX, b"chdir", 54, &[I32, I32], true),
+    Row(WASIX, b"proc_id", 55, &[I32], true),
+    Row(WASIX, b"proc_parent", 56, &[I32], true),
+    Row(WASIX, b"proc_fork", 57, &[I32], true),
+    Row(WASIX, b"proc_exec", 58, &[I32, I32, I32, I32], true),
+    Row(WASIX, b"proc_spawn", 59, &[I32, I32, I32, I32, I32], true),
+    Row(WASIX, b"proc_join", 60, &[I32, I32, I32], true),
+    Row(WASIX, b"proc_signal", 61, &[I32, I32], true),
+    Row(WASIX, b"thread_spawn", 62, &[I32, I32], true),
+    Row(WASIX, b"thread_id", 63, &[I32], true),
+    Row(WASIX, b"thread_join", 64, &[I32], true),
+    Row(WASIX, b"thread_exit", 65, &[I32], false),
+    Row(WASIX, b"thread_sleep", 66, &[I64], true),
+    Row(WASIX, b"futex_wait", 67, &[I32, I32, I64, I32], true),
+    Row(WASIX, b"futex_wake", 68, &[I32, I32, I32], true),
+    Row(WASIX, b"callback_signal", 69, &[I32, I32], true),
+    Row(WASIX, b"wx_sig_action", 70, &[I32, I32], true),
+    Row(WASIX, b"wx_sig_mask", 71, &[I32, I64, I32], true),
+];
 
 /// The names of WASI preview 1 that answer nosys.
-fn nosys_names() -> [&'static [u8]; 17]
-    ensures { map (λ name. name.now) result ≡ nosys_names }
+static NOSYS_NAMES: [&[u8]; 17] = [
+    b"clock_res_get",
+    b"fd_advise",
+    b"fd_allocate",
+    b"fd_datasync",
+    b"fd_fdstat_set_rights",
+    b"fd_filestat_set_times",
+    b"fd_sync",
+    b"path_filestat_set_times",
+    b"path_link",
+    b"path_readlink",
+    b"path_symlink",
+    b"proc_raise",
+    b"random_get",
+    b"sock_accept",
+    b"sock_recv",
+    b"sock_send",
+    b"sock_shutdown",
+];
+
+/// The rows of the calls.
+fn rows() -> &'static [Row]
+    ensures { map call_of_row result.now ≡ calls }
 {
-    [
-        b"clock_res_get",
-        b"fd_advise",
-        b"fd_allocate",
-        b"fd_datasync",
-        b"fd_fdstat_set_rights",
-        b"fd_filestat_set_times",
-        b"fd_sync",
-        b"path_filestat_set_times",
-        b"path_link",
-        b"path_readlink",
-        b"path_symlink",
-        b"proc_raise",
-        b"random_get",
-        b"sock_accept",
-        b"sock_recv",
-        b"sock_send",
-        b"sock_shutdown",
-    ]
+    &CALLS
+}
+
+/// The names that answer nosys.
+fn nosys_names() -> &'static [&'static [u8]]
+    ensures { map (λ name. name.now) result.now ≡ nosys_names }
+{
+    &NOSYS_NAMES
 }
 
 /// The row of a module and a name, if there is one.
@@ -186,45 +191,26 @@ fn number_with_type(row: &Row, of: &FuncType) -> Option<u16>
     }
 }
 
-/// The table of the calls.
-#[derive(Drop)]
-pub struct Calls {
-    rows: [Row; 51],
-    nosys: [&'static [u8]; 17],
-    ghost all: { map call_of_row rows ≡ calls },
-    ghost all_nosys: { map (λ name. name.now) nosys ≡ nosys_names },
+/// Whether a name is one that answers nosys.
+fn is_nosys(from: &[u8], name: &[u8]) -> bool
+    ensures { result ≡ is_nosys from.now name.now }
+{
+    PREVIEW1 == from && is_among(nosys_names(), name)
 }
 
-impl Calls {
-    /// The table.
-    pub fn new() -> Calls {
-        Calls {
-            rows: rows(),
-            nosys: nosys_names(),
+/// The number of the call that a function imported from this module, by this name and with this type, is; none where
+/// it is no call, or one of another type.
+pub fn call_number(from: &[u8], name: &[u8], of: &FuncType) -> Option<u16>
+    ensures { result ≡ call_number from.now name.now of.now }
+{
+    if is_nosys(from, name) {
+        if same_types(of.results.as_slice(), results(true)) {
+            return Some(NOSYS);
         }
+        return None;
     }
-
-    /// Whether a name is one that answers nosys.
-    fn is_nosys(&self, from: &[u8], name: &[u8]) -> bool
-        ensures { result ≡ is_nosys from.now name.now }
-    {
-        PREVIEW1 == from && is_among(&self.nosys, name)
-    }
-
-    /// The number of the call that a function imported from this module, by this name and with this type, is; none where
-    /// it is no call, or one of another type.
-    pub fn number(&self, from: &[u8], name: &[u8], of: &FuncType) -> Option<u16>
-        ensures { result ≡ call_number from.now name.now of.now }
-    {
-        if self.is_nosys(from, name) {
-            if same_types(of.results.as_slice(), results(true)) {
-                return Some(NOSYS);
-            }
-            return None;
-        }
-        match row_named(&self.rows, from, name) {
-            Some(row) => number_with_type(row, of),
-            None => None,
-        }
+    match row_named(rows(), from, name) {
+        Some(row) => number_with_type(row, of),
+        None => None,
     }
 }

@@ -3,7 +3,7 @@ ghost use Rattle.std.specs.Prelude.{◌≡◌, filter_map, is_some, option_copie
 ghost use Rattle.std.specs.List.{list_all};
 ghost use Rattle.instance.specs.Links.{import_call, import_links, is_built, is_host_memory};
 
-use crate::calls::Calls;
+use crate::calls::call_number;
 use std::alloc::{AllocError, Global};
 use wasm_ast::{FuncType, Import, ImportKind, Module};
 
@@ -15,14 +15,14 @@ fn type_at(module: &Module, of: u32) -> Option<&FuncType>
 }
 
 /// The call that an import is, where it is a function that is one.
-fn import_call(calls: &Calls, module: &Module, import: &Import) -> Option<u16>
+fn import_call(module: &Module, import: &Import) -> Option<u16>
     ensures { result ≡ import_call «module».now import.now }
 {
     let ImportKind::Func(of) = import.kind else {
         return None;
     };
     match type_at(module, of) {
-        Some(of) => calls.number(import.module.as_slice(), import.name.as_slice(), of),
+        Some(of) => call_number(import.module.as_slice(), import.name.as_slice(), of),
         None => None,
     }
 }
@@ -46,10 +46,9 @@ pub fn call_numbers(alloc: Global, module: &Module) -> Result<Option<Vec<u16>>, 
     ensures numbers { IfOk result (λ found. IfSome found (λ numbers. numbers.items ≡ filter_map (import_call «module».now) «module».now.imports)) }
     ensures links { IfOk result (λ found. is_some found ≡ list_all (import_links «module».now) «module».now.imports) }
 {
-    let calls = Calls::new();
     let mut numbers = Vec::new(alloc);
     for import in module.imports.as_slice() {
-        match import_call(&calls, module, import) {
+        match import_call(module, import) {
             Some(number) => numbers.push(number)?,
             None => {
                 if !is_host_memory(import) {

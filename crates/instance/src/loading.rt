@@ -1,9 +1,11 @@
 // Programs from the bytes of modules.
-ghost use Rattle.std.specs.Prelude.{◌≡◌, None, Result, Err};
+ghost use Rattle.std.specs.Prelude.{◌≡◌, true, filter_map, None, Result, Err, IfOk};
+ghost use Rattle.std.specs.List.{list_all};
 ghost use Rattle.wasm_decode.specs.Bounds.{first_passed};
-ghost use Rattle.instance.specs.Links.{linked};
-ghost use Rattle.instance.specs.Loads.{IsUnlessMemory, Loads};
-ghost use Rattle.instance.specs.Program.{Program as LinkedProgram};
+ghost use Rattle.instance.specs.Kept.{HasExports, IsProgram};
+ghost use Rattle.instance.specs.Links.{import_call, import_links, linked, program_of};
+ghost use Rattle.instance.specs.Loads.{IsUnlessMemory, Loads, answer_of};
+ghost use Rattle.instance.specs.Program.{Program as LinkedProgram, memory_limits};
 ghost use Rattle.instance.specs.declared.fault.LoadFault.{LoadFault as Fault};
 
 use crate::exports::{ExportKind, by_name, exported_function};
@@ -13,24 +15,40 @@ use crate::program::Program;
 use crate::segments::{memory_limits, segments_fit};
 use crate::waits::any_waits;
 use std::alloc::Global;
-use wasm_ast::Module;
+use std::collections::BTreeMap;
+use wasm_ast::{ExportKind as Exported, Limits, Module};
 use wasm_decode::{DecodeFault, decode};
 use wasm_reading::bytes_spell_one_module;
 use wasm_validate::{Valid, ValidateFault, validate};
 
-/// The program that a typed module is which passes no limit, or the first fault of linking.
-fn linked(alloc: Global, valid: Valid) -> Result<Program, LoadFault>
-    requires { first_passed valid ≡ None }
-    ensures { IsUnlessMemory result (linked valid) }
+/// What linking finds: the numbers of the calls, what each name is exported as, where the program begins, and the limits
+/// of its memory.
+struct Linking {
+    calls: Vec<u16>,
+    exports: BTreeMap<Vec<u8>, Exported>,
+    main: u32,
+    memory: Option<Limits>,
+}
+
+/// Where the program begins that a typed module is which passes no limit and whose imports are these calls, or the first
+/// fault of what is left of linking.
+fn begun(
+    alloc: Global,
+    valid: &Valid,
+    calls: &[u16],
+    exports: &BTreeMap<Vec<u8>, Exported>,
+) -> Result<u32, LoadFault>
+    requires modest { first_passed valid.now ≡ None }
+    requires calls { calls.now ≡ filter_map (import_call valid.now) valid.now.imports }
+    requires links { list_all (import_links valid.now) valid.now.imports ≡ true }
+    requires exports { HasExports valid.now.exports exports.now }
+    ensures program { IfOk result (λ main. IsProgram valid.now calls.now main (memory_limits valid.now)) }
+    ensures answer { IsUnlessMemory (answer_of (program_of valid.now) result) (linked valid.now) }
 {
     let module = valid.module();
-    let Some(calls) = call_numbers(alloc, module)? else {
-        return Err(LoadFault::Unlinked);
-    };
-    let exports = by_name(alloc, module.exports.as_slice())?;
     let Some(main) = exported_function(
-        &valid,
-        &exports,
+        valid,
+        exports,
         b"_start".as_slice(),
         ExportKind::Start.params(),
     ) else {
@@ -39,12 +57,27 @@ fn linked(alloc: Global, valid: Valid) -> Result<Program, LoadFault>
     if !segments_fit(module) {
         return Err(LoadFault::SegmentOutside);
     }
-    if !are_built(calls.as_slice()) || any_waits(alloc, module)? {
+    if !are_built(calls) || any_waits(alloc, module)? {
         return Err(LoadFault::NotYet);
     }
+    Ok(main)
+}
+
+/// What linking finds of a typed module that passes no limit, or the first fault of linking.
+fn linked(alloc: Global, valid: &Valid) -> Result<Linking, LoadFault>
+    requires { first_passed valid.now ≡ None }
+    ensures program { IfOk result (λ found. IsProgram valid.now found.calls.items found.main found.memory) }
+    ensures exports { IfOk result (λ found. HasExports valid.now.exports found.exports) }
+    ensures answer { IsUnlessMemory (answer_of (program_of valid.now) result) (linked valid.now) }
+{
+    let module = valid.module();
+    let Some(calls) = call_numbers(alloc, module)? else {
+        return Err(LoadFault::Unlinked);
+    };
+    let exports = by_name(alloc, module.exports.as_slice())?;
+    let main = begun(alloc, valid, calls.as_slice(), &exports)?;
     let memory = memory_limits(module);
-    Ok(Program {
-        valid,
+    Ok(Linking {
         calls,
         exports,
         main,
@@ -58,7 +91,21 @@ fn validated(alloc: Global, module: Module) -> Result<Program, LoadFault>
     ensures { IsUnlessMemory result (linked «module») }
 {
     match validate(alloc, module) {
-        Ok(valid) => linked(alloc, valid),
+        Ok(valid) => {
+            let Linking {
+                calls,
+                exports,
+                main,
+                memory,
+            } = linked(alloc, &valid)?;
+            Ok(Program {
+                valid,
+                calls,
+                exports,
+                main,
+                memory,
+            })
+        }
         Err(ValidateFault::Invalid) => Err(LoadFault::Invalid),
         Err(ValidateFault::Memory) => Err(LoadFault::Memory),
     }
