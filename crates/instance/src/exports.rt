@@ -1,6 +1,7 @@
 // Functions that a module exports, by their names and types.
-ghost use Rattle.std.specs.Prelude.{◌≡◌, IfOk};
+ghost use Rattle.std.specs.Prelude.{◌≡◌, length, nat_le, IfOk};
 ghost use Rattle.wasm_ast.specs.Table.{function_type};
+ghost use Rattle.wasm_ast.specs.TypingModule.{functions_of};
 ghost use Rattle.instance.specs.Kept.{HasExports};
 ghost use Rattle.instance.specs.Program.{exported_function, exported_of_type, own_of_type, params_of};
 
@@ -48,12 +49,19 @@ pub fn by_name(alloc: Global, exports: &[Export]) -> Result<BTreeMap<Vec<u8>, Ex
     Ok(map)
 }
 
+/// Whether a function is one of the module's own, which imported functions come before in the counting.
+fn is_own(valid: &Valid, function: u32) -> bool
+    ensures { result ≡ nat_le (length (functions_of valid.now.imports)) function }
+{
+    function as usize >= valid.imported_functions()
+}
+
 /// A function, if it is one of the module's own, takes these parameters and gives nothing.
 fn own_of_type(valid: &Valid, params: &[ValType], function: u32) -> Option<u32>
     ensures { result ≡ own_of_type valid.now params.now function (function_type valid.now function) }
 {
     let of = valid.function_type(function)?;
-    if function as usize >= valid.imported_functions()
+    if is_own(valid, function)
         && same_types(params, of.params.as_slice())
         && same_types(&[], of.results.as_slice())
     {

@@ -1,9 +1,10 @@
 // Programs from the bytes of modules.
-ghost use Rattle.std.specs.Prelude.{◌≡◌, true, filter_map, None, Result, Err, IfOk};
+ghost use Rattle.std.specs.Prelude.{◌≡◌, [], true, false, filter_map, None, Result, Err, IfOk, IfErr, OnOk};
 ghost use Rattle.std.specs.List.{list_all};
+ghost use Rattle.wasm_ast.specs.TypingModule.{globals_of};
 ghost use Rattle.wasm_decode.specs.Bounds.{first_passed};
 ghost use Rattle.instance.specs.Kept.{HasExports, IsProgram};
-ghost use Rattle.instance.specs.Links.{import_call, import_links, linked, program_of};
+ghost use Rattle.instance.specs.Links.{import_call, import_links, linked, program_of, segments_fit};
 ghost use Rattle.instance.specs.Loads.{IsUnlessMemory, Loads, answer_of};
 ghost use Rattle.instance.specs.Program.{Program as LinkedProgram, memory_limits};
 ghost use Rattle.instance.specs.declared.fault.LoadFault.{LoadFault as Fault};
@@ -30,6 +31,19 @@ struct Linking {
     memory: Option<Limits>,
 }
 
+/// `SegmentOutside` exactly where a segment passes the table or the memory as it is at first.
+fn check_segments(module: &Module) -> Result<(), LoadFault>
+    requires { globals_of «module».now.imports ≡ [] }
+    ensures fit { OnOk result (segments_fit «module».now ≡ true) }
+    ensures outside { IfErr result (λ fault. (fault ≡ LoadFault.SegmentOutside) × (segments_fit «module».now ≡ false)) }
+{
+    if segments_fit(module) {
+        Ok(())
+    } else {
+        Err(LoadFault::SegmentOutside)
+    }
+}
+
 /// Where the program begins that a typed module is which passes no limit and whose imports are these calls, or the first
 /// fault of what is left of linking.
 fn begun(
@@ -54,9 +68,7 @@ fn begun(
     ) else {
         return Err(LoadFault::Unlinked);
     };
-    if !segments_fit(module) {
-        return Err(LoadFault::SegmentOutside);
-    }
+    check_segments(module)?;
     if !are_built(calls) || any_waits(alloc, module)? {
         return Err(LoadFault::NotYet);
     }
@@ -91,21 +103,26 @@ fn validated(alloc: Global, module: Module) -> Result<Program, LoadFault>
     ensures { IsUnlessMemory result (linked «module») }
 {
     match validate(alloc, module) {
-        Ok(valid) => {
-            let Linking {
-                calls,
-                exports,
-                main,
-                memory,
-            } = linked(alloc, &valid)?;
-            Ok(Program {
+        Ok(valid) => match linked(alloc, &valid) {
+            Ok(
+                Linking {
+                    calls,
+                    exports,
+                    main,
+                    memory,
+                },
+            ) => Ok(Program {
                 valid,
                 calls,
                 exports,
                 main,
                 memory,
-            })
-        }
+            }),
+            Err(fault) => {
+                drop(valid);
+                Err(fault)
+            }
+        },
         Err(ValidateFault::Invalid) => Err(LoadFault::Invalid),
         Err(ValidateFault::Memory) => Err(LoadFault::Memory),
     }

@@ -4,7 +4,7 @@ use Rattle.wasm_ast.specs.TypingModule.{globals_of}
 use Rattle.instance.proofs.LinkLemmas.{none_among}
 use Rattle.instance.proofs.loading.begun.Goals as goal
 
-pub segments_fit-requires : goal.segments_fit-requires
-segments_fit-requires c =
+pub check_segments-requires : goal.check_segments-requires
+check_segments-requires c =
     let m = c.args.valid.now in
     subst (λ (n : Module). globals_of n.imports ≡ []) (sym c.module-module.ensures.value) (none_among m m.imports c.requires.links)
