@@ -17,6 +17,3 @@ pub use file_shelf::FileShelf;
 pub use reason::Reason;
 pub use serial::{Ended, wasix_serial};
 pub use streams::{StreamSink, StreamSource};
-
-#[cfg(test)]
-mod tests;
