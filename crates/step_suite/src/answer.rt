@@ -1,21 +1,20 @@
 //! What comes of a row.
-ghost use Rattle.std.specs.Prelude.{◌≡◌, ◌≤◌, ◌<◌, ◌+◌, ◌∷◌, [], length, IfOk, OnOk, IfSome, option_to_list, true};
+ghost use Rattle.std.specs.Prelude.{◌≡◌, ◌≤◌, ◌<◌, ◌+◌, ◌∷◌, [], length, IfOk, OnOk, IfSome, option_to_list, unwrap_or, true};
 ghost use Rattle.std.specs.Bool.{OnTrue};
-ghost use Rattle.wasm_ast.specs.declared.module.Module.{Module};
 ghost use Rattle.guest_state.specs.Fits.{Accepts, Fits, HaveTypes};
 ghost use Rattle.guest_state.specs.Module.{own_function};
 ghost use Rattle.guest_state.specs.Snapshot.{thread_of};
 ghost use Rattle.wasm_steps.specs.Kept.{IsAnswer};
 ghost use Rattle.wasm_steps.specs.Stepped.{Stepped};
 ghost use Rattle.wasm_steps.specs.Step.{step};
-ghost use Rattle.step_suite.specs.Stands.{Stands};
+ghost use Rattle.interp.specs.Stops.{stop_of};
 
 use super::row::Row;
+use super::text::{write_bytes, write_stopped};
 use guest_state::Thread;
 use interp::{Stop, Stopped, advance};
-use linear_memory::{Memory, RangeFault};
+use linear_memory::Memory;
 use std::alloc::{AllocError, Global};
-use std::fmt::Write;
 use wasm_ast::{FuncType, Module, ValType};
 use wasm_validate::Valid;
 
@@ -60,14 +59,15 @@ fn is_result(of: &FuncType, value: Option<u64>) -> bool
 
 /// A memory as the module begins with, without data.
 fn memory_of(alloc: Global, module: &Module) -> Result<Option<Memory>, AllocError> {
-    let Some(limits) = module.memories.as_slice().first() else {
-        return Ok(Some(Memory::new(alloc, 0, 0, false)?));
+    let (min, max, shared) = match module.memories.as_slice().first() {
+        Some(limits) => (limits.min, limits.max.unwrap_or(65_536), limits.shared),
+        None => (0, 0, false),
     };
-    if limits.min > 256 {
+    if min > 256 {
         return Ok(None);
     }
-    let most = limits.max.unwrap_or(65_536);
-    Ok(Some(Memory::new(alloc, limits.min, most, limits.shared)?))
+    let memory = Memory::new(alloc, min, max, shared)?;
+    Ok(Some(memory))
 }
 
 /// Whether a function, given by its index, is one of the module's own that takes these arguments.
@@ -93,7 +93,7 @@ fn accepts(valid: &Valid, function: u32, arguments: &[u64]) -> bool
 }
 
 /// A thread that begins a function, given by its index, if the module has such a one of its own.
-fn begun(
+fn started(
     alloc: Global,
     valid: &Valid,
     function: u32,
@@ -111,13 +111,17 @@ fn begun(
     Ok(Some(thread))
 }
 
-/// Marks a thread, if it is to be marked.
-fn mark(thread: &mut Thread, marked: bool)
-    ensures { (m : Module) → Fits m (thread_of m thread.old) → Fits m (thread_of m thread.new) }
+/// The thread with which a row begins.
+fn begun(alloc: Global, valid: &Valid, row: &Row) -> Result<Option<Thread>, AllocError>
+    ensures { IfOk result (λ thread. IfSome thread (λ t. Fits valid.now (thread_of valid.now t))) }
 {
-    if marked {
-        thread.mark_full();
+    let mut started = started(alloc, valid, row.function, row.arguments.as_slice())?;
+    if let Some(thread) = &mut started {
+        if row.marked {
+            thread.mark_full();
+        }
     }
+    Ok(started)
 }
 
 /// Runs a thread in slices of so many steps until something stands.
@@ -128,8 +132,7 @@ fn until_stop(
     slice: u64,
 ) -> Result<Stopped, AllocError>
     requires { Fits valid.now (thread_of valid.now thread.old) }
-    ensures fits { OnOk result (Fits valid.now (thread_of valid.now thread.new)) }
-    ensures stands { IfOk result (λ s. Stands s.stop (step valid.now memory.new (thread_of valid.now thread.new))) }
+    ensures { OnOk result (Fits valid.now (thread_of valid.now thread.new)) }
 {
     let mut ran: u64 = 0;
     for _ in 0..u64::MAX {
@@ -148,7 +151,7 @@ fn until_stop(
 
 /// How many arguments what stands takes, if that value may answer it.
 fn answered(valid: &Valid, stop: Stop, value: Option<u64>) -> Option<usize>
-    ensures { IfSome result (λ count. (stepped : Stepped) → Stands stop stepped → IsAnswer valid.now stepped count value) }
+    ensures { IfSome result (λ count. (stepped : Stepped) → stop ≡ unwrap_or (stop_of stepped) Stop.Spent → IsAnswer valid.now stepped count value) }
 {
     match stop {
         Stop::Call { import } => {
@@ -188,7 +191,7 @@ fn answer(
     value: Option<u64>,
 ) -> bool
     requires fits { Fits valid.now (thread_of valid.now thread.old) }
-    requires stands { Stands stop (step valid.now memory.now (thread_of valid.now thread.old)) }
+    requires stands { stop ≡ unwrap_or (stop_of (step valid.now memory.now (thread_of valid.now thread.old))) Stop.Spent }
     ensures { Fits valid.now (thread_of valid.now thread.new) }
 {
     let _pages = memory.size();
@@ -206,67 +209,6 @@ fn answer(
     true
 }
 
-/// Writes the arguments of the call at which a thread stands.
-fn write_arguments(
-    text: &mut String,
-    valid: &Valid,
-    thread: &Thread,
-    count: usize,
-) -> Result<(), AllocError> {
-    if thread.is_finished() || !thread.has_arguments(valid.module(), count) {
-        return write!(text, "none");
-    }
-    let mut between = "";
-    for argument in thread.arguments(valid.module(), count) {
-        write!(text, "{between}{argument:x}")?;
-        between = " ";
-    }
-    Ok(())
-}
-
-/// Writes what stands, with the arguments of a call.
-fn write_stop(
-    text: &mut String,
-    valid: &Valid,
-    thread: &Thread,
-    stop: Stop,
-) -> Result<(), AllocError> {
-    match stop {
-        Stop::Call { import } => {
-            let count = match valid.function_type(import) {
-                Some(of) => of.params.len(),
-                None => 0,
-            };
-            write!(text, "call {import} (")?;
-            write_arguments(text, valid, thread, count)?;
-            write!(text, ")")
-        }
-        Stop::Wait { width, at } => write!(text, "wait {width} at {at:x}"),
-        Stop::Notify { at } => write!(text, "notify at {at:x}"),
-        Stop::Trap(cause) => write!(text, "trap {cause:?}"),
-        Stop::Finished => write!(text, "finished"),
-        Stop::Spent => write!(text, "spent"),
-    }
-}
-
-/// Writes what a memory has at an address.
-fn write_bytes(
-    alloc: Global,
-    text: &mut String,
-    memory: &Memory,
-    at: u32,
-    length: u32,
-) -> Result<(), AllocError> {
-    match memory.bytes(alloc, at, length) {
-        Ok(bytes) => {
-            let digits = hex::encode(alloc, bytes.as_slice())?;
-            write!(text, "; {}", digits.as_str())
-        }
-        Err(RangeFault::Outside) => write!(text, "; outside"),
-        Err(RangeFault::Memory) => Err(AllocError),
-    }
-}
-
 /// Runs on to what stands next, and writes how many steps that took and what it is.
 fn write_next(
     text: &mut String,
@@ -276,13 +218,33 @@ fn write_next(
     slice: u64,
 ) -> Result<Stop, AllocError>
     requires { Fits valid.now (thread_of valid.now thread.old) }
-    ensures fits { OnOk result (Fits valid.now (thread_of valid.now thread.new)) }
-    ensures stands { IfOk result (λ stop. Stands stop (step valid.now memory.new (thread_of valid.now thread.new))) }
+    ensures { OnOk result (Fits valid.now (thread_of valid.now thread.new)) }
 {
     let stopped = until_stop(valid, memory, thread, slice)?;
-    write!(text, "{} ", stopped.ran)?;
-    write_stop(text, valid, thread, stopped.stop)?;
+    write_stopped(text, valid, thread, stopped)?;
     Ok(stopped.stop)
+}
+
+/// Answers what stands and runs on to what stands next, which it writes behind the rest; `None` where that value may not
+/// answer it.
+fn write_answered(
+    text: &mut String,
+    valid: &Valid,
+    memory: &mut Memory,
+    thread: &mut Thread,
+    slice: u64,
+    value: Option<u64>,
+) -> Result<Option<Stop>, AllocError>
+    requires { Fits valid.now (thread_of valid.now thread.old) }
+    ensures { OnOk result (Fits valid.now (thread_of valid.now thread.new)) }
+{
+    let stopped = advance(valid, memory, thread, 0)?;
+    if !answer(valid, memory, thread, stopped.stop, value) {
+        return Ok(None);
+    }
+    text.push_str("; ")?;
+    let stop = write_next(text, valid, memory, thread, slice)?;
+    Ok(Some(stop))
 }
 
 /// Whether a thread that stands at something runs on, or stands at something else, when it is asked again.
@@ -298,6 +260,81 @@ fn moves(
     Ok(advance(valid, memory, thread, 0)? != same || advance(valid, memory, thread, 2)? != same)
 }
 
+/// Writes at what a thread stands, each time until all is answered; whether each answer fits.
+fn write_run(
+    text: &mut String,
+    valid: &Valid,
+    memory: &mut Memory,
+    thread: &mut Thread,
+    slice: u64,
+    answers: &[Option<u64>],
+) -> Result<bool, AllocError>
+    requires { Fits valid.now (thread_of valid.now thread.old) }
+{
+    let mut stop = write_next(text, valid, memory, thread, slice)?;
+    for value in answers {
+        match write_answered(text, valid, memory, thread, slice, *value)? {
+            Some(next) => stop = next,
+            None => return Ok(false),
+        }
+    }
+    if moves(valid, memory, thread, stop)? {
+        text.push_str("; moves")?;
+    }
+    Ok(true)
+}
+
+/// Writes what comes of a row whose thread is about to run; whether each answer fits.
+fn write_row(
+    alloc: Global,
+    text: &mut String,
+    valid: &Valid,
+    memory: &mut Memory,
+    thread: &mut Thread,
+    row: &Row,
+    slice: u64,
+) -> Result<bool, AllocError>
+    requires { Fits valid.now (thread_of valid.now thread.old) }
+{
+    if !write_run(text, valid, memory, thread, slice, row.answers.as_slice())? {
+        return Ok(false);
+    }
+    if let Some((at, length)) = row.shown {
+        write_bytes(alloc, text, memory, at, length)?;
+    }
+    Ok(true)
+}
+
+/// The same as a text.
+fn text_of(
+    alloc: Global,
+    valid: &Valid,
+    memory: &mut Memory,
+    thread: &mut Thread,
+    row: &Row,
+    slice: u64,
+) -> Result<Option<String>, AllocError>
+    requires { Fits valid.now (thread_of valid.now thread.old) }
+{
+    let mut text = String::new(alloc);
+    let fits = write_row(alloc, &mut text, valid, memory, thread, row, slice)?;
+    Ok(if fits { Some(text) } else { None })
+}
+
+/// What comes of a row over that memory.
+fn answer_over(
+    alloc: Global,
+    valid: &Valid,
+    memory: &mut Memory,
+    row: &Row,
+    slice: u64,
+) -> Result<Option<String>, AllocError> {
+    match begun(alloc, valid, row)? {
+        Some(mut thread) => text_of(alloc, valid, memory, &mut thread, row, slice),
+        None => Ok(None),
+    }
+}
+
 /// What comes of a row whose thread runs in slices of so many steps, or `None` where the module has no such function or
 /// memory, or where an answer doesn't fit.
 pub fn answer_of(
@@ -306,27 +343,8 @@ pub fn answer_of(
     row: &Row,
     slice: u64,
 ) -> Result<Option<String>, AllocError> {
-    let Some(mut memory) = memory_of(alloc, valid.module())? else {
-        return Ok(None);
-    };
-    let Some(mut thread) = begun(alloc, valid, row.function, row.arguments.as_slice())? else {
-        return Ok(None);
-    };
-    mark(&mut thread, row.marked);
-    let mut text = String::new(alloc);
-    let mut stop = write_next(&mut text, valid, &mut memory, &mut thread, slice)?;
-    for value in row.answers.as_slice() {
-        if !answer(valid, &memory, &mut thread, stop, *value) {
-            return Ok(None);
-        }
-        write!(text, "; ")?;
-        stop = write_next(&mut text, valid, &mut memory, &mut thread, slice)?;
+    match memory_of(alloc, valid.module())? {
+        Some(mut memory) => answer_over(alloc, valid, &mut memory, row, slice),
+        None => Ok(None),
     }
-    if moves(valid, &mut memory, &mut thread, stop)? {
-        write!(text, "; moves")?;
-    }
-    if let Some((at, length)) = row.shown {
-        write_bytes(alloc, &mut text, &memory, at, length)?;
-    }
-    Ok(Some(text))
 }

@@ -5,6 +5,7 @@
 
 mod answer;
 mod row;
+mod text;
 
 use anyhow::{Context, Result};
 use row::Row;
@@ -13,13 +14,6 @@ use std::rt::{Env, Files};
 use std::{env, fs};
 use wasm_validate::Valid;
 
-/// A module with its name.
-#[derive(Drop)]
-struct Named<'a> {
-    name: &'a str,
-    valid: Valid,
-}
-
 /// The module of these hexadecimal digits.
 fn module_of(alloc: Global, digits: &str) -> Result<Valid> {
     let bytes = hex::decode(alloc, digits)?;
@@ -27,23 +21,72 @@ fn module_of(alloc: Global, digits: &str) -> Result<Valid> {
     Ok(wasm_validate::validate(alloc, module)?)
 }
 
-/// The line of a row.
-fn print_row(rt: &(impl Print + AllocGlobal), module: &Named, line: &str) -> Result<()> {
-    let alloc = rt.alloc();
-    let Some(row) = Row::parse(alloc, line)? else {
-        return Err(anyhow::anyhow!("no row"));
-    };
-    let whole = answer::answer_of(alloc, &module.valid, &row, answer::WHOLE)?;
-    let Some(whole) = whole else {
+/// What comes of a row, where a thread that runs in slices comes to the same.
+fn answer_in_slices(alloc: Global, valid: &Valid, row: &Row) -> Result<String> {
+    let Some(whole) = answer::answer_of(alloc, valid, row, answer::WHOLE)? else {
         return Err(anyhow::anyhow!("no such thread"));
     };
     for slice in [1, 3] {
-        let sliced = answer::answer_of(alloc, &module.valid, &row, slice)?;
+        let sliced = answer::answer_of(alloc, valid, row, slice)?;
         if sliced.as_ref() != Some(&whole) {
             return Err(anyhow::anyhow!("another answer in slices"));
         }
     }
-    println!(rt; "{}: {line}: {whole}", module.name)?;
+    Ok(whole)
+}
+
+/// What comes of the row of a line.
+fn answer_of(alloc: Global, valid: &Valid, line: &str) -> Result<String> {
+    match Row::parse(alloc, line)? {
+        Some(row) => answer_in_slices(alloc, valid, &row),
+        None => Err(anyhow::anyhow!("no row")),
+    }
+}
+
+/// What comes of the row of a line in the module of these digits, which is read anew for each row.
+fn answer_in(alloc: Global, digits: &str, line: &str) -> Result<String> {
+    let valid = module_of(alloc, digits)?;
+    answer_of(alloc, &valid, line)
+}
+
+/// The name and the digits of a module's line.
+fn named(line: &str) -> Option<(&str, &str)> {
+    line.split_once(" = ")
+}
+
+fn print_answer(
+    rt: &(impl Print + AllocGlobal),
+    name: &str,
+    row: &str,
+    answer: &str,
+) -> Result<()> {
+    println!(rt; "{name}: {row}: {answer}")?;
+    Ok(())
+}
+
+/// The line of a row, in the module of another line.
+fn print_row(rt: &(impl Print + AllocGlobal), module: &str, row: &str) -> Result<()> {
+    let Some((name, digits)) = named(module) else {
+        return Err(anyhow::anyhow!("no module"));
+    };
+    let answer = answer_in(rt.alloc(), digits, row)?;
+    print_answer(rt, name, row, answer.as_str())
+}
+
+fn is_row(line: &str) -> bool {
+    !line.is_empty() && !line.starts_with("#")
+}
+
+/// The lines of the rows, each in the module that stands above it.
+fn print_rows(rt: &(impl Print + AllocGlobal), text: &str) -> Result<()> {
+    let mut module = "";
+    for line in text.lines() {
+        if line.contains(" = ") {
+            module = line;
+        } else if is_row(line) {
+            print_row(rt, module, line).context(line)?;
+        }
+    }
     Ok(())
 }
 
@@ -52,22 +95,7 @@ fn run(rt: &(impl Env + Files + Print + AllocGlobal)) -> Result<()> {
         return Err(anyhow::anyhow!("which file has the rows?"));
     };
     let text = fs::read_to_string(rt, path.as_str()).context("reading the rows")?;
-    let mut module: Option<Named> = None;
-    for line in text.lines() {
-        if line.is_empty() || line.starts_with("#") {
-            continue;
-        }
-        if let Some((name, digits)) = line.split_once(" = ") {
-            let valid = module_of(rt.alloc(), digits).context(format_args!("{name:.60}"))?;
-            module = Some(Named { name, valid });
-        } else {
-            match &module {
-                Some(module) => print_row(rt, module, line).context(format_args!("{line:.60}"))?,
-                None => return Err(anyhow::anyhow!("no module")),
-            }
-        }
-    }
-    Ok(())
+    print_rows(rt, text.as_str())
 }
 
 fn main(rt: HostRuntime) -> Result<()> {

@@ -57,35 +57,55 @@ fn parted<'a>(words: &'a [&'a str], mark: &str) -> (&'a [&'a str], &'a [&'a str]
     (words, &[])
 }
 
+fn is_marked(words: &[&str]) -> bool {
+    match words.first() {
+        Some(word) => *word == "marked",
+        None => false,
+    }
+}
+
+/// The function that words name.
+fn function(words: &[&str]) -> Option<u32> {
+    words.get(1)?.parse::<u32>().ok()
+}
+
+/// An address and a length.
+fn range(words: &[&str]) -> Option<(u32, u32)> {
+    Some((address(words.first())?, address(words.get(1))?))
+}
+
 impl Row {
-    /// The row of a line `run FUNCTION ARGUMENT.. [answers ANSWER..] [bytes AT LENGTH]`, with `marked` in place of `run` for a
-    /// thread that is marked.
-    pub fn parse(alloc: Global, line: &str) -> Result<Option<Row>, AllocError> {
-        let words: Vec<&str> = line.split_whitespace().collect(alloc)?;
-        let (front, range) = parted(words.as_slice(), "bytes");
-        let (front, given) = parted(front, "answers");
-        let (Some(name), Some(function)) = (front.first(), front.get(1)) else {
+    /// The row of words, of which these answer.
+    fn of_words(
+        alloc: Global,
+        words: &[&str],
+        given: &[&str],
+        shown: Option<(u32, u32)>,
+    ) -> Result<Option<Row>, AllocError> {
+        let Some(function) = function(words) else {
             return Ok(None);
         };
-        let Ok(function) = function.parse::<u32>() else {
-            return Ok(None);
-        };
-        let Some(arguments) = numbers(alloc, &front[2..])? else {
+        let Some(arguments) = numbers(alloc, words.get(2..).unwrap_or(&[]))? else {
             return Ok(None);
         };
         let Some(answers) = answers(alloc, given)? else {
             return Ok(None);
         };
-        let shown = match (address(range.first()), address(range.get(1))) {
-            (Some(at), Some(length)) => Some((at, length)),
-            _ => None,
-        };
         Ok(Some(Row {
             function,
             arguments,
             answers,
-            marked: *name == "marked",
+            marked: is_marked(words),
             shown,
         }))
+    }
+
+    /// The row of a line `run FUNCTION ARGUMENT.. [answers ANSWER..] [bytes AT LENGTH]`, with `marked` in place of `run` for a
+    /// thread that is marked.
+    pub fn parse(alloc: Global, line: &str) -> Result<Option<Row>, AllocError> {
+        let words: Vec<&str> = line.split_whitespace().collect(alloc)?;
+        let (front, shown) = parted(words.as_slice(), "bytes");
+        let (front, given) = parted(front, "answers");
+        Row::of_words(alloc, front, given, range(shown))
     }
 }

@@ -1,10 +1,9 @@
-use Rattle.std.proofs.Common.{◌≡◌, ◌≤◌, ◌+◌, true, length, option_to_list, arith}
+use Rattle.std.proofs.Common.{◌≡◌, ◌≤◌, true, arith}
 use Rattle.wasm_ast.specs.TypingModule.{is_typed}
 use Rattle.linear_memory.specs.LinearMemory.{page_count}
-use Rattle.guest_state.specs.Fits.{Fits, IsAnsweredBy}
+use Rattle.guest_state.specs.Fits.{IsAnsweredBy}
 use Rattle.guest_state.specs.GuestThread.{value_count}
 use Rattle.guest_state.specs.Snapshot.{thread_of}
-use Rattle.guest_state.specs.Steps.{taken_count}
 use Rattle.wasm_steps.specs.Kept.{IsAnswer, IsMemory}
 use Rattle.wasm_steps.specs.Step.{step}
 use Rattle.wasm_steps.proofs.Kept.{answer_kept}

@@ -1,4 +1,4 @@
-use Rattle.std.proofs.Common.{◌≡◌, drop, length}
+use Rattle.std.proofs.Common.{drop}
 use Rattle.guest_state.specs.Fits.{HaveTypes}
 use Rattle.step_suite.proofs.answer.have_types.Given as goal
 

@@ -1,6 +1,6 @@
 use Rattle.std.proofs.Common.{◌≡◌, true}
 use Rattle.wasm_ast.specs.TypingModule.{is_typed}
-use Rattle.step_suite.proofs.answer.begun.Goals as goal
+use Rattle.step_suite.proofs.answer.started.Goals as goal
 
 pub returns : goal.returns
 returns c =
