@@ -1,9 +1,11 @@
 -- A body that is being built lies in its lists in the order of the text.
-use Rattle.std.proofs.Common.{◌≡◌, ℕ, ◌+◌, ◌<◌, ◌≤◌, List, [], ◌∷◌, ◌++◌, length, map, reverse, get_or, Option, refl, sym, ◌∙◌, ap, subst, arith, length-append, append_assoc, true, Result, Ok, Err, OnOk, OnErr}
+use Rattle.std.proofs.Common.{◌≡◌, ℕ, suc, ◌+◌, ◌-◌, ◌<◌, ◌≤◌, List, [], ◌∷◌, ◌++◌, length, map, reverse, take, get_or, slice_get, slice_index_or, slice_set, Option, Some, refl, sym, ◌∙◌, ap, subst, arith, length-append, append_assoc, true, Result, Ok, Err, OnOk, OnErr}
 use Rattle.std.proofs.lemmas.Bool.{false≢true}
+use Rattle.std.proofs.lemmas.Grind.{common_steps}
+use Rattle.std.proofs.lemmas.Option.{gets}
 use Rattle.std.proofs.Math.ListN.{set}
-use Rattle.std.proofs.Math.Seq.{set-append_seam, get_or-append_seam}
-use Rattle.std.proofs.lemmas.List.{append-nil, reverse-append}
+use Rattle.std.proofs.Math.Seq.{set-append_seam, get_or-append_seam, take-length, take-suc}
+use Rattle.std.proofs.lemmas.List.{append-nil, reverse-append, length-take-le, take-append-le}
 use Rattle.wasm_ast.specs.declared.types.ValType.{ValType}
 use Rattle.wasm_ast.specs.declared.instr.{Instr.Instr, Construct.Construct}
 use Rattle.wasm_ast.specs.declared.instr.Instr.TheVariants as instr
@@ -306,6 +308,32 @@ end_by lists lists1 lists2 items items' f n outer i v kept view p w o s =
     let ready = end_made lists f (reverse items') n (popped lists items items' f n p kept) lists1 lists2 i w (s ∙ ap (λ k. set lists1 k (list_at lists1 k ++ i ∷ [])) o) in
     let was : built_of lists (f ∷ reverse items') n ≡ v = ap (λ fs. built_of lists fs n) (sym (last_first items' items f p)) ∙ view in
     subst (λ k. Becomes lists2 (reverse items') k (with_end v)) (sym o) (subst (λ x. Becomes lists2 (reverse items') (outer_of f) (with_end x)) was ready)
+
+-- the last of some items, and another in its place
+pub lasts : {X : Type 0} (os : List X) (o other : X) (m : ℕ) → m ≡ length os → 0 < m → o ≡ slice_index_or os (m - 1) o → (front : List X) × (os ≡ front ++ o ∷ []) × (slice_set os (m - 1) other ≡ front ++ other ∷ [])
+lasts os o other m q h e =
+    let front = take (m - 1) os in
+    let same : os ≡ front ++ o ∷ [] = sym (take-length os) ∙ ap (λ k. take k os) {y = suc (m - 1)} (omega arith) ∙ take-suc os (m - 1) o (omega arith) ∙ ap (λ x. front ++ x ∷ []) (sym e) in
+    let size : m - 1 ≡ length front = sym (length-take-le (m - 1) os (omega arith)) in
+    (front, same, ap (λ xs. slice_set xs (m - 1) other) same ∙ ap (λ k. slice_set (front ++ o ∷ []) k other) size ∙ set-append_seam front o [] other)
+
+pub last_of : {X : Type 0} (os : List X) (o : X) → Some o ≡ slice_get os (length os - 1) → os ≡ take (length os - 1) os ++ o ∷ []
+last_of [] o h = cc
+last_of (x ∷ os) o h = grind (arith, common_steps, gets)
+
+-- a call that wants memory leaves the lists as they were
+pub unchanged : (lists lists' : List (List Instr)) (fs : List Frame) (n : ℕ) (v : Built) → IsKept lists fs n → built_of lists fs n ≡ v → lists' ≡ lists → Becomes lists' fs n v
+unchanged lists lists' fs n v kept view p = subst (λ ls. Becomes ls fs n v) (sym p) (view, kept)
+
+pub always_err : {T E P : Type 0} (r : Result T E) → P → OnErr r P
+always_err (Ok x) p = tt
+always_err (Err e) p = p
+
+-- the lists that a construct's instruction has added are taken away again
+pub taken_back : (f : Frame) (lists lists1 : List (List Instr)) (n : ℕ) (i : Instr) → Wraps f n lists i lists1 → take (length lists) lists1 ≡ lists
+taken_back (frame.Inside (construct.Block k) of outer) lists lists1 n i w = ap (take (length lists)) w.1 ∙ take-length lists
+taken_back (frame.Inside construct.If of outer) lists lists1 n i w = ap (take (length lists)) w.1 ∙ take-append-le (length lists) lists ([] ∷ []) (omega arith) ∙ take-length lists
+taken_back (frame.Else of then outer) lists lists1 n i w = ap (take (length lists)) w.1 ∙ take-length lists
 
 pub end_within : (lists lists1 : List (List Instr)) (items items' : List Frame) (f : Frame) (n outer : ℕ) (i : Instr) → IsKept lists (reverse items) n → items ≡ items' ++ f ∷ [] → Wraps f n lists i lists1 → outer ≡ outer_of f → outer < length lists1
 end_within lists lists1 items items' f n outer i kept p w o = omega (arith, outer_inside lists f (reverse items') n (popped lists items items' f n p kept) lists1 i w)

@@ -3,5 +3,4 @@ pub mod NumberingLemmas
 pub mod OpcodeLaws
 pub mod TextOrder
 pub mod BuilderLemmas
-pub mod NumberedOnce
 pub mod WalkLemmas

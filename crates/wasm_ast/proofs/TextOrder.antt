@@ -203,16 +203,10 @@ names_at top n (is ∷ lists) h (suc j) = list_names (Within ((n + 1) + j) top) 
 abbrev pub Later : List (List Instr) → Type 0
 Later lists = (n : ℕ) → ListNames (Within n (length lists)) (list_at lists n)
 
-from_first : (lists : List (List Instr)) (top : ℕ) → top ≡ length lists → InnerNames top 0 lists → Later lists
-from_first lists top e h n = list_names (Within (0 + n) top) (Within n (length lists)) (list_at lists n) (λ m p. (omega (arith, p.0), omega (arith, p.1))) (names_at top 0 lists h n)
-
 pub inner_later : (s : Sequence) → AllPlain s → Later (inner_lists 0 s)
-inner_later s p = from_first (inner_lists 0 s) (count s) (sym (length-inner_lists 0 s)) (inner_names (count s) 0 s p (omega arith))
-
-pub lists_later : (s : Sequence) → AllPlain s → Later (lists_of s)
-lists_later s p =
-    let top = 1 + count s in
-    from_first (lists_of s) top (omega (arith, length-inner_lists 1 s)) (own_names 0 top 1 s p (omega arith) (omega arith), inner_names top 1 s p (omega arith))
+inner_later s p n =
+    let l = length-inner_lists 0 s in
+    list_names (Within (0 + n) (count s)) (Within n (length (inner_lists 0 s))) (list_at (inner_lists 0 s) n) (λ m q. (omega (arith, q.0), omega (arith, q.1, l))) (names_at (count s) 0 (inner_lists 0 s) (inner_names (count s) 0 s p (omega arith)) n)
 
 -- what fits each list is the sequence of each
 module _ (lists : List (List Instr)) (F : ℕ → Sequence) (later : Later lists) (fits : (n : ℕ) → sequence F (list_at lists n) ≡ F n) where

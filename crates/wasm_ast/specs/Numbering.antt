@@ -1,6 +1,5 @@
 -- The numbered lists of a body, and what they mean.
-use Rattle.std.specs.Prelude.{◌≡◌, ℕ, ◌+◌, ◌<◌, ◌==◌, zero, suc, List, [], ◌∷◌, ◌++◌, length, count_by, slice_index_or, Option}
-use Rattle.std.specs.List.{flat_map}
+use Rattle.std.specs.Prelude.{ℕ, ◌+◌, zero, suc, List, [], ◌∷◌, ◌++◌, length, slice_index_or, Option}
 use Rattle.wasm_ast.specs.declared.types.ValType.{ValType}
 use Rattle.wasm_ast.specs.declared.instr.{Instr.Instr, BlockKind.BlockKind}
 use Rattle.wasm_ast.specs.declared.instr.Instr.TheVariants as instr
@@ -10,17 +9,6 @@ use Rattle.wasm_ast.specs.Sequence.{Sequence, Empty, Plain, Block, If}
 -- the list of that number, empty where there is none
 abbrev pub list_at : List (List Instr) → ℕ → List Instr
 list_at lists n = slice_index_or lists n []
-
--- the numbers of the lists that an instruction names
-abbrev pub names : Instr → List ℕ
-names (instr.Block of body) = body ∷ []
-names (instr.Loop of body) = body ∷ []
-names (instr.If of then otherwise) = then ∷ otherwise ∷ []
-names i = []
-
--- how often the instructions of all lists name the list of that number
-abbrev pub times_named : List (List Instr) → ℕ → ℕ
-times_named lists n = count_by (λ m. m == n) (flat_map (λ is. flat_map names is) lists)
 
 -- each number that an instruction names has the property
 abbrev pub InstrNames : (ℕ → Type 0) → Instr → Type 0
@@ -33,13 +21,6 @@ InstrNames P i = Unit {0}
 abbrev pub ListNames : (ℕ → Type 0) → List Instr → Type 0
 ListNames P [] = Unit {0}
 ListNames P (i ∷ is) = InstrNames P i × ListNames P is
-
--- List 0 is the function's. Each number that an instruction names is that of a list, and greater
--- than the number of the list in which the instruction stands; each list but 0 is named once.
-pub record IsNumbered (lists : List (List Instr)) : Type 0 where
-  pub first : 0 < length lists
-  pub inner : (n : ℕ) → ListNames (λ m. (n < m) × (m < length lists)) (list_at lists n)
-  pub once : (n : ℕ) → 0 < n → n < length lists → times_named lists n ≡ 1
 
 -- an instruction in front of a sequence, where inner is the sequence of each numbered list
 abbrev pub in_front : (ℕ → Sequence) → Instr → Sequence → Sequence

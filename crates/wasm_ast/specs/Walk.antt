@@ -1,5 +1,5 @@
 -- What a walk over a body has still to meet.
-use Rattle.std.specs.Prelude.{◌≡◌, ℕ, List, [], ◌∷◌, ◌++◌, Option, Some, None}
+use Rattle.std.specs.Prelude.{◌≡◌, Bool, true, false, List, [], ◌∷◌, ◌++◌, Option, Some, None}
 use Rattle.wasm_ast.specs.declared.instr.Instr.{Instr}
 use Rattle.wasm_ast.specs.declared.walk.Event as code
 use Rattle.wasm_ast.specs.declared.walk.Event.TheVariants as event
@@ -16,15 +16,17 @@ event_of (event.Begin c of) = Begin c of
 event_of (event.Else b) = Else b
 event_of event.End = End
 
--- the second arm that comes behind a first one
-abbrev pub second_events : Sequence → Option ℕ → List Event
-second_events s None = []
-second_events s (Some n) = Else (is_empty (sequence_at s n)) ∷ events (sequence_at s n)
+-- what ends where a list does: the first arm of an if, in front of the second, or a construct
+abbrev pub end_event : Bool → Sequence → Event
+end_event true second = Else (is_empty second)
+end_event false behind = End
 
--- what comes behind the lists that are open, the innermost first
+-- what comes behind the innermost list
 abbrev pub outer_events : Sequence → List Outer → List Event
 outer_events s [] = []
-outer_events s (o ∷ os) = second_events s o.second ++ (End ∷ events (sequence (sequence_at s) o.rest.now) ++ outer_events s os)
+outer_events s (o ∷ os) =
+    let rest = sequence (sequence_at s) o.rest.now in
+    end_event o.is_second rest ∷ events rest ++ outer_events s os
 
 abbrev pub walk_events : Sequence → List Instr → List Outer → List Event
 walk_events s is os = events (sequence (sequence_at s) is) ++ outer_events s os

@@ -11,9 +11,8 @@ use std::marker::Model;
 
 /// The instructions of a function or of a constant expression, without the `end` behind them (2.4.6).
 /// They stand in numbered lists. List 0 is the function's own. A block, a loop and an if name their
-/// inner lists by number, in the order in which they begin in the text: each number is that of a list,
-/// and greater than the number of the list in which the instruction stands, and each list but 0 is
-/// named exactly once. Contracts see the instructions as nested sequences.
+/// inner lists by number, in the order in which they begin in the text. Contracts see the instructions as
+/// nested sequences.
 #[derive(Drop)]
 pub struct Body {
     lists: Vec<Items<Instr>>,
@@ -35,7 +34,7 @@ impl Model for Body {
 }
 
 impl Body {
-    ghost use Rattle.wasm_ast.specs.Numbering.{IsNumbered, lists_of, nested};
+    ghost use Rattle.wasm_ast.specs.Numbering.{lists_of, nested};
 
     /// The body of these lists, which are numbered in the order of the text. No memory is taken.
     pub(crate) fn new(lists: Vec<Items<Instr>>) -> Body
@@ -43,14 +42,6 @@ impl Body {
         ensures { result ≡ nested lists.items 0 }
     {
         Body { lists }
-    }
-
-    /// The lists by their numbers.
-    pub fn lists(&self) -> &[Items<Instr>]
-        ensures numbered { IsNumbered result.now }
-        ensures value { result.now ≡ lists_of self.now }
-    {
-        self.lists.as_slice()
     }
 
     /// The list of that number; none has no instructions.

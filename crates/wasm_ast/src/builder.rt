@@ -41,7 +41,7 @@ impl Frame {
 
 /// A body that is built one instruction after another. Contracts see the constructs that are open,
 /// the innermost first, each with what stands in front of it, and what was added to the innermost
-/// sequence. A call that wants memory takes the builder with it.
+/// sequence.
 #[derive(Drop)]
 pub struct BodyBuilder {
     lists: Vec<Items<Instr>>,
@@ -88,28 +88,32 @@ impl BodyBuilder {
         push_at(&mut self.lists, self.list, instr)
     }
 
-    /// Begins a block, a loop or an if of that type.
+    /// Begins a block, a loop or an if of that type. `AllocError` is want of memory and nothing else; the body
+    /// is unchanged then.
     #[inline(always)]
     pub fn open(
-        self,
+        &mut self,
         alloc: Global,
         construct: Construct,
         of: Option<ValType>,
-    ) -> Result<BodyBuilder, AllocError>
-        ensures { IfOk result (λ b. b ≡ with_open construct of self) }
+    ) -> Result<(), AllocError>
+        ensures ok { OnOk result (self.new ≡ with_open construct of self.old) }
+        ensures err { OnErr result (self.new ≡ self.old) }
     {
-        let BodyBuilder {
-            mut lists,
-            mut opens,
-            list: outer,
-        } = self;
-        opens.push(Frame::Inside {
+        let outer = self.list;
+        let count = self.lists.len();
+        let list = add_list(alloc, &mut self.lists)?;
+        let frame = Frame::Inside {
             construct,
             of,
             outer,
-        })?;
-        let list = add_list(alloc, &mut lists)?;
-        Ok(BodyBuilder { lists, opens, list })
+        };
+        let Ok(()) = self.opens.push(frame) else {
+            self.lists.truncate(count);
+            return Err(AllocError);
+        };
+        self.list = list;
+        Ok(())
     }
 
     /// Whether the innermost construct is the first arm of an if.
@@ -125,23 +129,25 @@ impl BodyBuilder {
         )
     }
 
-    /// Begins the second arm of the innermost construct.
+    /// Begins the second arm of the innermost construct. `AllocError` is want of memory and nothing else; the
+    /// body is unchanged then.
     #[inline(always)]
-    pub fn else_(self, alloc: Global) -> Result<BodyBuilder, AllocError>
-        requires { takes_else self.opens ≡ true }
-        ensures { IfOk result (λ b. b ≡ with_else self) }
+    pub fn else_(&mut self, alloc: Global) -> Result<(), AllocError>
+        requires { takes_else self.old.opens ≡ true }
+        ensures ok { OnOk result (self.new ≡ with_else self.old) }
+        ensures err { OnErr result (self.new ≡ self.old) }
     {
-        let BodyBuilder {
-            mut lists,
-            mut opens,
-            list: then,
-        } = self;
-        let Some(Frame::Inside { of, outer, .. }) = opens.pop() else {
+        let list = add_list(alloc, &mut self.lists)?;
+        let Some(frame) = self.opens.last_mut() else {
             unreachable!();
         };
-        opens.push(Frame::Else { of, then, outer })?;
-        let list = add_list(alloc, &mut lists)?;
-        Ok(BodyBuilder { lists, opens, list })
+        let Frame::Inside { of, outer, .. } = *frame else {
+            unreachable!();
+        };
+        let then = self.list;
+        *frame = Frame::Else { of, then, outer };
+        self.list = list;
+        Ok(())
     }
 
     /// Whether a construct is open.
@@ -151,28 +157,27 @@ impl BodyBuilder {
         !self.opens.is_empty()
     }
 
-    /// Ends the innermost construct.
+    /// Ends the innermost construct. `AllocError` is want of memory and nothing else; the body is unchanged then.
     #[inline(always)]
-    pub fn end(self, alloc: Global) -> Result<BodyBuilder, AllocError>
-        requires { is_inside self.opens ≡ true }
-        ensures { IfOk result (λ b. b ≡ with_end self) }
+    pub fn end(&mut self, alloc: Global) -> Result<(), AllocError>
+        requires { is_inside self.old.opens ≡ true }
+        ensures ok { OnOk result (self.new ≡ with_end self.old) }
+        ensures err { OnErr result (self.new ≡ self.old) }
     {
-        let BodyBuilder {
-            mut lists,
-            mut opens,
-            list,
-        } = self;
-        let Some(frame) = opens.pop() else {
+        let Some(frame) = self.opens.last() else {
             unreachable!();
         };
-        let instr = wrapped(alloc, &mut lists, frame, list)?;
+        let frame = *frame;
         let outer = frame.outer();
-        push_at(&mut lists, outer, instr)?;
-        Ok(BodyBuilder {
-            lists,
-            opens,
-            list: outer,
-        })
+        let count = self.lists.len();
+        let instr = wrapped(alloc, &mut self.lists, frame, self.list)?;
+        let Ok(()) = push_at(&mut self.lists, outer, instr) else {
+            self.lists.truncate(count);
+            return Err(AllocError);
+        };
+        self.opens.pop();
+        self.list = outer;
+        Ok(())
     }
 
     /// The body. No memory is taken.
@@ -187,7 +192,8 @@ impl BodyBuilder {
 
 /// A new empty list at the end, by its number. More lists than there are numbers are want of memory.
 fn add_list(alloc: Global, lists: &mut Vec<Items<Instr>>) -> Result<u32, AllocError>
-    ensures { IfOk result (λ n. (n ≡ length lists.old.items) × (lists.new.items ≡ lists.old.items ++ [] ∷ [])) }
+    ensures ok { IfOk result (λ n. (n ≡ length lists.old.items) × (lists.new.items ≡ lists.old.items ++ [] ∷ [])) }
+    ensures err { OnErr result (lists.new.items ≡ lists.old.items) }
 {
     let len = lists.len();
     if len > u32::MAX as usize {
@@ -226,7 +232,8 @@ fn wrapped(
     frame: Frame,
     last: u32,
 ) -> Result<Instr, AllocError>
-    ensures { IfOk result (λ i. Wraps frame last lists.old.items i lists.new.items) }
+    ensures ok { IfOk result (λ i. Wraps frame last lists.old.items i lists.new.items) }
+    ensures err { OnErr result (lists.new.items ≡ lists.old.items) }
 {
     match frame {
         Frame::Inside { construct, of, .. } => match construct {

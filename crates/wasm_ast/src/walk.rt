@@ -22,17 +22,17 @@ pub enum Event<'a> {
     End,
 }
 
-/// A list that is open round the innermost one.
+/// What comes where the innermost list is at its end.
 #[derive(Clone, Copy)]
 pub(crate) struct Outer<'a> {
-    /// Its instructions behind the construct that is open.
+    /// The instructions that come then.
     pub(crate) rest: &'a [Instr],
-    /// The number of the list of the second arm, where that is still to come.
-    pub(crate) second: Option<u32>,
+    /// Whether they are the second arm of an if whose first one has ended. Otherwise they stand behind a construct.
+    pub(crate) is_second: bool,
 }
 
-/// A walk over a body from its start to its end, over a stack of the lists that are open. Contracts
-/// see the events that are still to come. The end of the body itself is none.
+/// A walk over a body from its start to its end, over a stack of what comes behind the list that is open.
+/// Contracts see the events that are still to come. The end of the body itself is none.
 #[derive(Drop)]
 pub struct Walk<'a> {
     body: &'a Body,
@@ -92,23 +92,31 @@ impl<'a> Walk<'a> {
                 self.rest = rest;
                 return Ok(Some(Event::Instruction(instr)));
             };
-            let second = inner.second;
-            self.outer.push(Outer { rest, second })?;
+            self.outer.push(Outer {
+                rest,
+                is_second: false,
+            })?;
             self.rest = self.body.list(inner.first);
-            return Ok(Some(Event::Begin(inner.construct, inner.of)));
+            let begin = Event::Begin(inner.construct, inner.of);
+            let Some(second) = inner.second else {
+                return Ok(Some(begin));
+            };
+            let rest = self.body.list(second);
+            self.outer.push(Outer {
+                rest,
+                is_second: true,
+            })?;
+            return Ok(Some(begin));
         }
-        let Some(outer) = self.outer.last_mut() else {
+        let Some(outer) = self.outer.pop() else {
             return Ok(None);
         };
-        let Some(second) = outer.second.take() else {
-            self.rest = outer.rest;
-            self.outer.pop();
-            return Ok(Some(Event::End));
-        };
-        self.rest = self.body.list(second);
-        Ok(Some(Event::Else {
-            is_empty: self.rest.is_empty(),
-        }))
+        self.rest = outer.rest;
+        if outer.is_second {
+            let is_empty = self.rest.is_empty();
+            return Ok(Some(Event::Else { is_empty }));
+        }
+        Ok(Some(Event::End))
     }
 }
 

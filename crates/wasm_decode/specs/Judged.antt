@@ -12,3 +12,8 @@ unless_passed m (Some bound) = Err (Limit bound)
 
 abbrev pub judged : Module → Result Module DecodeFault
 judged m = if module_has_float m then Err Float else unless_passed m (first_passed m)
+
+-- a module, or why it is refused
+abbrev pub unless_refused : Module → Option DecodeFault → Result Module DecodeFault
+unless_refused m None = Ok m
+unless_refused m (Some fault) = Err fault

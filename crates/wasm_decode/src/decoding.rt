@@ -5,7 +5,7 @@ ghost use Rattle.wasm_ast.specs.declared.module.Module.{Module as SpelledModule}
 ghost use Rattle.wasm_decode.specs.declared.fault.Bound.{Bound as Passed};
 ghost use Rattle.wasm_decode.specs.Bounds.{most_bytes};
 ghost use Rattle.wasm_decode.specs.Decodes.{SpellsModest, SpellsNone, SpellsFloat, Passes, Decodes, IsUnlessMemory};
-ghost use Rattle.wasm_decode.specs.Judged.{judged};
+ghost use Rattle.wasm_decode.specs.Judged.{judged, unless_refused};
 
 use crate::bounds::first_passed;
 use crate::fault::{Bound, DecodeFault};
@@ -17,17 +17,30 @@ use wasm_reading::{ReadFault, bytes_spell_one_module, read};
 
 const MOST_BYTES: usize = 4_194_304;
 
+/// Why a module is refused, if it has a float or passes a limit.
+fn refusal(alloc: Global, module: &Module) -> Option<DecodeFault>
+    ensures { IsUnlessMemory (unless_refused module.now result) (judged module.now) }
+{
+    let Ok(found) = search(alloc, module) else {
+        return Some(DecodeFault::Memory);
+    };
+    if types_have_float(module) || found.float {
+        return Some(DecodeFault::Float);
+    }
+    let bound = first_passed(module, found.deep)?;
+    Some(DecodeFault::Limit(bound))
+}
+
 /// The module, unless it has a float or passes a limit.
 fn judged(alloc: Global, module: Module) -> Result<Module, DecodeFault>
     ensures { IsUnlessMemory result (judged «module») }
 {
-    let found = search(alloc, &module)?;
-    if types_have_float(&module) || found.float {
-        return Err(DecodeFault::Float);
-    }
-    match first_passed(&module, found.deep) {
+    match refusal(alloc, &module) {
         None => Ok(module),
-        Some(bound) => Err(DecodeFault::Limit(bound)),
+        Some(fault) => {
+            drop(module);
+            Err(fault)
+        }
     }
 }
 

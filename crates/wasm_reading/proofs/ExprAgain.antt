@@ -13,11 +13,10 @@ use Rattle.wasm_ast.specs.Opcodes.{block_byte, construct_byte}
 use Rattle.wasm_ast.specs.SpelledInstr.{SpellsPlain, SpellsSequence, SpellsExpr}
 use Rattle.wasm_ast.specs.OpcodeTables.{opcode_at, SpellsBehind}
 use Rattle.wasm_ast.proofs.OpcodeLaws.{spelled_is_behind, plain_begins}
-use Rattle.wasm_reading.specs.declared.exprs.{Shape.Shape, Step.Step}
+use Rattle.wasm_reading.specs.declared.exprs.Shape.{Shape}
 use Rattle.wasm_reading.specs.declared.exprs.Shape.TheVariants as shape
-use Rattle.wasm_reading.specs.declared.exprs.Step.TheVariants.{Continue, Complete}
 use Rattle.wasm_reading.specs.ReadValues.{and_then, IsExact}
-use Rattle.wasm_reading.specs.ReadExpr.{shape_of, behind_shape, goes_on, rest_at, expr_at}
+use Rattle.wasm_reading.specs.ReadExpr.{Step, Continue, Complete, shape_of, behind_shape, goes_on, rest_at, expr_at}
 use Rattle.wasm_reading.proofs.TypeLaws.{blocktype_exact}
 use Rattle.wasm_reading.proofs.InstrLaws.{immediates_exact}
 use Rattle.wasm_reading.proofs.Sequences.{append-empty, append-append}

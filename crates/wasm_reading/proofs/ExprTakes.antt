@@ -14,12 +14,11 @@ use Rattle.wasm_ast.specs.Opcodes.{block_byte, construct_byte}
 use Rattle.wasm_ast.specs.SpelledInstr.{SpellsSequence, SpellsExpr}
 use Rattle.wasm_ast.specs.OpcodeTables.{opcode_at}
 use Rattle.wasm_ast.proofs.OpcodeLaws.{behind_is_spelled}
-use Rattle.wasm_reading.specs.declared.exprs.{Shape.Shape, Step.Step}
+use Rattle.wasm_reading.specs.declared.exprs.Shape.{Shape}
 use Rattle.wasm_reading.specs.declared.exprs.Shape.TheVariants as shape
-use Rattle.wasm_reading.specs.declared.exprs.Step.TheVariants.{Continue, Complete}
 use Rattle.wasm_reading.specs.ReadTypes.{blocktype_at}
 use Rattle.wasm_reading.specs.ReadInstr.{immediates_at}
-use Rattle.wasm_reading.specs.ReadExpr.{shape_of, end_step, behind_shape, step_at, goes_on, steps_at, expr_at}
+use Rattle.wasm_reading.specs.ReadExpr.{Step, Continue, Complete, shape_of, end_step, behind_shape, step_at, goes_on, steps_at, expr_at}
 use Rattle.wasm_reading.proofs.ValueLaws.{read_first, chose_some, begins_as}
 use Rattle.wasm_reading.proofs.TypeLaws.{blocktype_exact}
 use Rattle.wasm_reading.proofs.InstrLaws.{immediates_exact}

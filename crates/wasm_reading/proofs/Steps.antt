@@ -8,12 +8,11 @@ use Rattle.wasm_ast.specs.declared.opcode.AtomicOpcode.TheVariants as atomic
 use Rattle.wasm_ast.specs.Sequence.{Sequence}
 use Rattle.wasm_ast.specs.Built.{Built, NamesNone, takes_else, with_else}
 use Rattle.wasm_ast.specs.OpcodeTables.{opcode_at, atomic_at, atomic_plan_of, SpellsPlan, SpellsBehind}
-use Rattle.wasm_reading.specs.declared.exprs.{Shape.Shape, Step.Step}
+use Rattle.wasm_reading.specs.declared.exprs.Shape.{Shape}
 use Rattle.wasm_reading.specs.declared.exprs.Shape.TheVariants as shape
-use Rattle.wasm_reading.specs.declared.exprs.Step.TheVariants.{Continue, Complete}
 use Rattle.wasm_reading.specs.ReadValues.{and_then, mapped, IsExact}
 use Rattle.wasm_reading.specs.ReadInstr.{immediates_at}
-use Rattle.wasm_reading.specs.ReadExpr.{shape_of, behind_shape, step_at, goes_on, steps_at, rest_at}
+use Rattle.wasm_reading.specs.ReadExpr.{Step, Continue, Complete, shape_of, behind_shape, step_at, goes_on, steps_at, rest_at}
 use Rattle.wasm_reading.proofs.ValueLaws.{read_first, chose_some}
 use Rattle.wasm_reading.proofs.InstrLaws.{immediates_exact}
 use Rattle.wasm_reading.proofs.TypeLaws.{blocktype_exact}

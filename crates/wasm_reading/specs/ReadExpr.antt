@@ -1,5 +1,5 @@
 -- Reading expressions.
-use Rattle.std.specs.Prelude.{ℕ, zero, suc, if◌then◌else◌, List, [], ◌∷◌, length, Option, Some, None}
+use Rattle.std.specs.Prelude.{Bool, true, false, ℕ, zero, suc, if◌then◌else◌, List, [], ◌∷◌, length, Option, Some, None}
 use Rattle.wasm_ast.specs.declared.instr.BlockKind.TheVariants as kind
 use Rattle.wasm_ast.specs.declared.instr.Construct.TheVariants as construct
 use Rattle.wasm_ast.specs.declared.opcode.Opcode.{Opcode}
@@ -7,9 +7,8 @@ use Rattle.wasm_ast.specs.declared.opcode.Opcode.TheVariants as op
 use Rattle.wasm_ast.specs.Sequence.{Sequence}
 use Rattle.wasm_ast.specs.Built.{Built, nothing_built, with_plain, with_open, takes_else, with_else, is_inside, with_end}
 use Rattle.wasm_ast.specs.OpcodeTables.{opcode_at}
-use Rattle.wasm_reading.specs.declared.exprs.{Shape.Shape, Step.Step}
+use Rattle.wasm_reading.specs.declared.exprs.Shape.{Shape}
 use Rattle.wasm_reading.specs.declared.exprs.Shape.TheVariants as shape
-use Rattle.wasm_reading.specs.declared.exprs.Step.TheVariants.{Continue, Complete}
 use Rattle.wasm_reading.specs.ReadValues.{and_then, mapped}
 use Rattle.wasm_reading.specs.ReadTypes.{blocktype_at}
 use Rattle.wasm_reading.specs.ReadInstr.{immediates_at}
@@ -22,6 +21,16 @@ shape_of op.Block = shape.Begin (construct.Block kind.Block)
 shape_of op.Loop = shape.Begin (construct.Block kind.Loop)
 shape_of op.If = shape.Begin construct.If
 shape_of o = shape.Plain
+
+-- what a step comes to: that much was read, and there is more, or the whole expression
+pub data Step : Type 0 where
+  Continue : (built : Built) → Step
+  Complete : (expr : Sequence) → Step
+
+-- whether the expression is complete, and what was read
+abbrev pub step_of : Bool → Built → Step
+step_of false v = Continue v
+step_of true v = Complete v.before
 
 -- an end is that of the innermost construct, or that of the expression
 abbrev pub end_step : Built → Step

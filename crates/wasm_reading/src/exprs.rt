@@ -1,7 +1,8 @@
 // Expressions: WebAssembly Core 1.0, sections 5.4.1 and 5.4.6.
-ghost use Rattle.std.specs.Prelude.{◌≡◌, IfOk};
+ghost use Rattle.std.specs.Prelude.{◌≡◌, [], IfOk};
+ghost use Rattle.std.specs.Bool.{OnTrue};
 ghost use Rattle.wasm_reading.specs.ReadAnswers.{Gives};
-ghost use Rattle.wasm_reading.specs.ReadExpr.{expr_at, shape_of, end_step, step_at};
+ghost use Rattle.wasm_reading.specs.ReadExpr.{expr_at, shape_of, end_step, step_of, step_at};
 
 use crate::fault::ReadFault;
 use crate::instrs::{immediates, opcode};
@@ -35,34 +36,27 @@ fn shape_at(opcode: Opcode) -> Shape
     }
 }
 
-/// What a step of the reading of an expression comes to.
-#[derive(Drop)]
-pub(crate) enum Step {
-    /// That much was read, and there is more.
-    Continue(BodyBuilder),
-    /// The whole expression.
-    Complete(Body),
-}
-
-/// The end of the innermost construct, or that of the expression.
-fn end(alloc: Global, built: BodyBuilder) -> Result<Step, AllocError>
-    ensures { IfOk result (λ s. s ≡ end_step built) }
+/// The end of the innermost construct, or that of the expression. Whether it is that of the expression.
+fn end(alloc: Global, built: &mut BodyBuilder) -> Result<bool, AllocError>
+    ensures step { IfOk result (λ complete. step_of complete built.new ≡ end_step built.old) }
+    ensures whole { IfOk result (λ complete. OnTrue complete (built.new.opens ≡ [])) }
 {
-    if built.is_inside() {
-        Ok(Step::Continue(built.end(alloc)?))
-    } else {
-        Ok(Step::Complete(built.finish()))
+    if !built.is_inside() {
+        return Ok(true);
     }
+    built.end(alloc)?;
+    Ok(false)
 }
 
-/// The next byte, and what stands behind it.
+/// The next byte, and what stands behind it. Whether that is the end of the expression.
 #[inline(always)]
 fn next_step(
     alloc: Global,
-    mut built: BodyBuilder,
+    built: &mut BodyBuilder,
     cursor: &mut Cursor<'_>,
-) -> Result<Step, ReadFault>
-    ensures { Gives (λ x. x) result cursor.new (step_at built cursor.old) }
+) -> Result<bool, ReadFault>
+    ensures step { Gives (λ complete. step_of complete built.new) result cursor.new (step_at built.old cursor.old) }
+    ensures whole { IfOk result (λ complete. OnTrue complete (built.new.opens ≡ [])) }
 {
     let byte = next(cursor)?;
     let begun = opcode(byte);
@@ -72,16 +66,18 @@ fn next_step(
             if !built.takes_else() {
                 return Err(ReadFault::Malformed);
             }
-            Ok(Step::Continue(built.else_(alloc)?))
+            built.else_(alloc)?;
+            Ok(false)
         }
         Shape::Begin(construct) => {
             let of = blocktype(cursor)?;
-            Ok(Step::Continue(built.open(alloc, construct, of)?))
+            built.open(alloc, construct, of)?;
+            Ok(false)
         }
         Shape::Plain => {
             let instr = immediates(alloc, begun, cursor)?;
             built.plain(instr)?;
-            Ok(Step::Continue(built))
+            Ok(false)
         }
     }
 }
@@ -92,9 +88,8 @@ pub(crate) fn expr(alloc: Global, cursor: &mut Cursor<'_>) -> Result<Body, ReadF
 {
     let mut built = BodyBuilder::new(alloc)?;
     'steps: loop {
-        match next_step(alloc, built, cursor)? {
-            Step::Complete(body) => return Ok(body),
-            Step::Continue(next) => built = next,
+        if next_step(alloc, &mut built, cursor)? {
+            return Ok(built.finish());
         }
     }
 }

@@ -19,9 +19,9 @@ pub struct Block {
 /// An open block and its operands, which lie in a stack with those of the others.
 #[derive(Clone, Copy)]
 struct Frame {
-    block: Block,
     /// How many of the operands are its own.
     own: usize,
+    block: Block,
     /// Whether anything may stand below them, in code that isn't reached.
     unreachable: bool,
 }
@@ -104,6 +104,7 @@ impl Blocks {
     }
 
     /// Takes the last operand, which is to be of that type, if there is one.
+    #[inline(always)]
     pub fn expect_value(&mut self, of: Option<ValType>) -> bool
         ensures operands { ended result self.new.operands ≡ pop_operands (option_to_list of) self.old.operands }
         ensures enclosing { self.new.enclosing ≡ self.old.enclosing }
@@ -161,6 +162,7 @@ impl Blocks {
     }
 
     /// Takes operands of some types, and gives those of others.
+    #[inline(always)]
     pub fn apply(&mut self, params: &[ValType], results: &[ValType]) -> Result<bool, AllocError>
         ensures operands { IfOk result (λ fits. ended fits self.new.operands ≡ applied params.now results.now self.old.operands) }
         ensures enclosing { self.new.enclosing ≡ self.old.enclosing }
@@ -206,6 +208,7 @@ impl Blocks {
     }
 
     /// Opens a block, without operands.
+    #[inline(always)]
     pub fn open(&mut self, kind: BlockKind, of: Option<ValType>) -> Result<(), AllocError>
         ensures { OnOk result (self.new ≡ opened kind of self.old) }
     {
@@ -219,6 +222,7 @@ impl Blocks {
     }
 
     /// Closes the innermost block, which is to have no operands, and says whether one is around it.
+    #[inline(always)]
     pub fn close(&mut self) -> bool
         requires { is_empty self.old.operands.types ≡ true }
         ensures { Closes self.old.enclosing.outer result self.new }

@@ -61,6 +61,7 @@ impl Context<'_> {
 }
 
 /// Begins a block, a loop or an if.
+#[inline(always)]
 fn begin(blocks: &mut Blocks, construct: Construct, of: Option<ValType>) -> Result<bool, AllocError>
     ensures { IfOk result (λ fits. fitting fits blocks.new ≡ begun construct of blocks.old) }
 {
@@ -80,6 +81,7 @@ fn begin(blocks: &mut Blocks, construct: Construct, of: Option<ValType>) -> Resu
 }
 
 /// Ends the first arm of an if, and begins the second.
+#[inline(always)]
 fn goes_to_second(blocks: &mut Blocks) -> bool
     ensures { fitting result blocks.new ≡ at_else blocks.old }
 {
@@ -92,6 +94,7 @@ fn goes_to_second(blocks: &mut Blocks) -> bool
 }
 
 /// Ends a block, a loop or an if.
+#[inline(always)]
 fn end(blocks: &mut Blocks) -> Result<bool, AllocError>
     ensures { IfOk result (λ fits. fitting fits blocks.new ≡ at_end blocks.old) }
 {
@@ -104,6 +107,7 @@ fn end(blocks: &mut Blocks) -> Result<bool, AllocError>
 }
 
 /// Whether the operands are exactly the value of a block's type, if any. There are none then.
+#[inline(always)]
 fn is_left(blocks: &mut Blocks, of: Option<ValType>) -> bool
     ensures value { result ≡ leaves of (Some blocks.old.operands) }
     ensures empty { OnTrue result (is_empty blocks.new.operands.types ≡ true) }

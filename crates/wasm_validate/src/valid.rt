@@ -3,6 +3,7 @@ ghost use Rattle.std.specs.Prelude.{◌≡◌, false, IsTrue, IfOk, OnOk, IfErr,
 ghost use Rattle.wasm_ast.specs.Table.{function_type, last_put};
 ghost use Rattle.wasm_ast.specs.TypingModule.{functions_of, is_typed};
 ghost use Rattle.wasm_validate.specs.declared.valid.ValidateFault.TheVariants.{Memory};
+ghost use Rattle.wasm_validate.specs.Elements.{IsValid};
 
 use super::elements::{first_places, last_put};
 use super::imported::functions;
@@ -95,6 +96,24 @@ impl Valid {
     }
 }
 
+/// What is kept beside a module, if it is typed: the index of the type of each of its functions, and the functions
+/// at the first places of its table.
+fn tables(alloc: Global, module: &Module) -> Result<(Vec<u32>, Vec<Option<u32>>), ValidateFault>
+    ensures valid { IfOk result (λ t. IsValid module.now t.0.items t.1.items) }
+    ensures invalid_only { IfErr result (λ e. e ≡ ValidateFault.Invalid → is_typed module.now ≡ false) }
+{
+    if !is_module(alloc, module)? {
+        return Err(ValidateFault::Invalid);
+    }
+    let functions = functions(
+        alloc,
+        module.imports.as_slice(),
+        module.functions.as_slice(),
+    )?;
+    let places = first_places(alloc, module)?;
+    Ok((functions, places))
+}
+
 /// The module, if it is typed (chapter 3, and the threads proposal). `Invalid` comes exactly where it
 /// isn't, `Memory` only for want of memory; both drop the module. An instruction on floating-point
 /// numbers is never typed, since it isn't kept which one it is.
@@ -103,18 +122,15 @@ pub fn validate(alloc: Global, checked: Module) -> Result<Valid, ValidateFault>
     ensures valid_only { OnOk result (IsTrue (is_typed checked)) }
     ensures invalid_only { IfErr result (λ e. e ≡ ValidateFault.Invalid → is_typed checked ≡ false) }
 {
-    if !is_module(alloc, &checked)? {
-        return Err(ValidateFault::Invalid);
+    match tables(alloc, &checked) {
+        Ok((functions, places)) => Ok(Valid {
+            module: checked,
+            functions,
+            places,
+        }),
+        Err(fault) => {
+            drop(checked);
+            Err(fault)
+        }
     }
-    let functions = functions(
-        alloc,
-        checked.imports.as_slice(),
-        checked.functions.as_slice(),
-    )?;
-    let places = first_places(alloc, &checked)?;
-    Ok(Valid {
-        module: checked,
-        functions,
-        places,
-    })
 }

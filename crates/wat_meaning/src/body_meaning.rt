@@ -130,8 +130,8 @@ impl<'a> Walked<'a> {
     ) -> Result<Walked<'a>, AllocError>
         ensures { IfOk result (λ w. w ≡ walked (seen_name label.entry ∷ self.entry.labels) (with_open of leaves self.entry.built)) }
     {
-        let Walked { labels, built } = self;
-        let built = built.open(alloc, of, leaves)?;
+        let Walked { labels, mut built } = self;
+        built.open(alloc, of, leaves)?;
         let labels = labels.with(alloc, label)?;
         Ok(Walked { labels, built })
     }
@@ -140,11 +140,11 @@ impl<'a> Walked<'a> {
     fn second_arm(self, alloc: Global, label: Option<&[u8]>) -> Result<Walked<'a>, Unmeant>
         ensures { Means (λ w. w) result (else_for (seen_name label.entry) self.entry.labels self.entry.built) }
     {
-        let Walked { labels, built } = self;
+        let Walked { labels, mut built } = self;
         if !built.takes_else() || !labels.is_repeated(label) {
             return Err(Unmeant::Name);
         }
-        let built = built.else_(alloc)?;
+        built.else_(alloc)?;
         Ok(Walked { labels, built })
     }
 
@@ -152,11 +152,11 @@ impl<'a> Walked<'a> {
     fn end(self, alloc: Global, label: Option<&[u8]>) -> Result<Walked<'a>, Unmeant>
         ensures { Means (λ w. w) result (end_for (seen_name label.entry) self.entry.labels self.entry.built) }
     {
-        let Walked { labels, built } = self;
+        let Walked { labels, mut built } = self;
         if !built.is_inside() || !labels.is_repeated(label) {
             return Err(Unmeant::Name);
         }
-        let built = built.end(alloc)?;
+        built.end(alloc)?;
         let labels = labels.outside(alloc)?;
         Ok(Walked { labels, built })
     }

@@ -1,12 +1,23 @@
-use Rattle.std.proofs.Common.{rules, refl, sym, ◌∙◌}
-use Rattle.std.specs.Vec.{vec_len}
-use Rattle.wasm_ast.proofs.WalkLemmas.{begin_next, else_next}
+use Rattle.std.proofs.Common.{◌∷◌, reverse, refl, sym, ◌∙◌, ap}
+use Rattle.wasm_ast.specs.Position.{sequence_at}
+use Rattle.wasm_ast.specs.Events.{Else}
+use Rattle.wasm_ast.specs.Walk.{end_event, walk_events}
+use Rattle.wasm_ast.specs.Numbering.{sequence}
+use Rattle.wasm_ast.proofs.WalkLemmas.{block_next, if_next, end_next, empty_list}
 use Rattle.wasm_ast.proofs.walk.Walk.next.Goals as goal
 
-pub returns-in-Some : goal.returns-in-Some
-returns-in-Some c = begin_next _ _ _ _ _ _ _ _ _ _ c.self.view_is c.in-Some.ensures.cases.0 c.in_ok-push.ensures.items (sym c.opened_by.ensures ∙ c.in-Some-opened_by.is) c.list-self-inside.ensures refl refl
+pub returns-in_default-second : goal.returns-in_default-second
+returns-in_default-second c =
+    block_next _ _ _ _ _ _ _ _ _ _ c.self.view_is c.in-Some.ensures.cases.0 (sym c.opened_by.ensures ∙ c.in-Some-opened_by.is) c.list-self-inside.ensures c.in_ok-push.ensures.items refl refl c.in_default-second.is
 
-pub returns : goal.returns
-returns c =
-    let os = c.self.inside.outer in
-    else_next _ _ _ _ os.items _ _ (vec_len os) _ _ c.self.view_is c.in_default.ensures.cases os.ok.0 (search rules) c.in-Some-last_mut.ensures.value (sym c.take.ensures.value ∙ c.in-Some-take.is) c.list-self-inside-2.ensures refl c.take.ensures.after c.is_empty.ensures
+pub returns-in-Some : goal.returns-in-Some
+returns-in-Some c =
+    if_next _ _ _ _ _ _ _ _ _ _ c.self.view_is c.in-Some.ensures.cases.0 (sym c.opened_by.ensures ∙ c.in-Some-opened_by.is) c.list-self-inside.ensures c.in_ok-push.ensures.items refl refl _ _ _ _ c.in-Some-second.is c.list-rest.ensures c.in_ok-push-2.ensures.items refl refl
+
+pub returns-then-outer : goal.returns-then-outer
+returns-then-outer c =
+    let outer = c.in-Some-pop.outer in
+    let behind = walk_events c.self.inside.body.now outer.rest.now in
+    end_next _ _ _ _ _ outer c.self.view_is c.in_default.ensures.cases c.in-Some-pop.ensures.items
+    ∙ ap (λ b. end_event b (sequence (sequence_at c.self.inside.body.now) outer.rest.now) ∷ behind (reverse c.pop.new.self.items)) c.if-outer.true
+    ∙ ap (λ b. Else b ∷ behind (reverse c.pop.new.self.items)) (empty_list (sequence_at c.self.inside.body.now) outer.rest.now ∙ sym c.is_empty-is_empty.ensures)
