@@ -148,9 +148,9 @@ fn judge_lines<'a>(alloc: Global, tree: Tree, text: &'a [u8]) -> Result<PackList
     Ok(PackList { tree, files })
 }
 
-/// The tree of a list, in which all files are empty, and the names of their bytes. A list has at most 1,048,576 bytes. `Wrong` comes exactly
-/// for the first line that is wrong: one that is neither `dir PATH` nor `file PATH NAME`, whose path is none that an image may
-/// have, or that the tree refuses. `Memory` is want of memory.
+/// The tree of a list, in which all files are empty, and the names of their bytes. A list has at most 1,048,576
+/// bytes. `Wrong` comes exactly for the first line that is wrong: one that is neither `dir PATH` nor `file PATH
+/// NAME`, whose path is none that an image may have, or that the tree refuses. `Memory` is want of memory.
 #[tactic(auto, unfolding(crate::specs::Judging::judge))]
 pub fn judge(alloc: Global, text: &[u8]) -> Result<PackList<'_>, ListFault>
     requires { length text.now ≤ 1048576 }

@@ -1,6 +1,7 @@
 //! The suite of steps: for each row of the file that is named, the row and at what its thread stands, each time. A
-//! thread runs as a whole and again in slices of one step and of three, which must come to the same. The modules and rows in `data/steps.txt` and the lines that are expected of them come from `make_cases.py` beside this
-//! folder, which has the rules of steps and nothing of this project's code.
+//! thread runs as a whole and again in slices of one step and of three, which must come to the same. The modules and
+//! rows in `data/steps.txt` and the lines that are expected of them come from `make_cases.py` beside this folder,
+//! which has the rules of steps and nothing of this project's code.
 #![tactic(auto)]
 
 mod answer;

@@ -30,7 +30,8 @@ fn bytes_of_text(alloc: Global, text: &[u8]) -> Result<Bytes, FileFault>
     }
 }
 
-/// The bytes of the module of the text of this name. The refusals are tested in the order of the text's read and length, and what is wrong with it.
+/// The bytes of the module of the text of this name. The refusals are tested in the order of the text's read and
+/// length, and what is wrong with it.
 pub fn module_bytes<H: Shelf>(alloc: Global, shelf: &mut H, text: &str) -> Result<Bytes, FileFault>
     ensures told { (files : Files) (out : List ℕ) → H.held shelf.old ≡ Some files → WritesAs out (asm_verdict files text.now out) result }
     ensures kept { H.held shelf.new ≡ H.held shelf.old }

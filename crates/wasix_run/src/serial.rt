@@ -221,8 +221,9 @@ pub fn wasix_serial<H: Shelf, I: Source, O: Sink, E: Sink>(
     // With Done it does hold them.
     ensures done { (files : Files) (name bytes : List ℕ) → H.held shelf.old ≡ Some files → IsVerdict (map string_bytes words.now) files (Writes name bytes) → result.reason ≡ Reason.Done → told_file (H.held shelf.new) name ≡ Some (Some bytes) }
 
-    // The output took what the history prints to it, and the errors what it prints to them and then the text of the answer's first reason, or
-    // none where the output failed; a sink that failed took a front. The first reason is the one that is told, unless a sink failed.
+    // The output took what the history prints to it, and the errors what it prints to them and then the text of the
+    // answer's first reason, or none where the output failed; a sink that failed took a front. The first reason is
+    // the one that is told, unless a sink failed.
     ensures output { Took (O.taken out) (O.taken result.out) (O.faults out) (O.faults result.out) (printed Stream.Output result.journal) }
     ensures errors { (first : Reason) × (text : List ℕ) × Took (E.taken err) (E.taken result.err) (E.faults err) (E.faults result.err) (printed Stream.Errors result.journal ++ text)
         × IsText first result.reason text (Rose (O.faults out) (O.faults result.out)) (Rose (E.faults err) (E.faults result.err))
