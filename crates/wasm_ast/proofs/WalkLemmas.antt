@@ -1,5 +1,5 @@
 -- A walk goes on event by event.
-use Rattle.std.proofs.Common.{◌≡◌, ℕ, Bool, true, false, ◌==◌, List, [], ◌∷◌, ◌++◌, length, reverse, Option, Some, None, refl, sym, ◌∙◌, ap, append_assoc, arith}
+use Rattle.std.proofs.Common.{◌≡◌, ℕ, zero, suc, false, ◌==◌, List, [], ◌∷◌, ◌++◌, length, reverse, Option, Some, None, refl, sym, ◌∙◌, ap, append_assoc, arith}
 use Rattle.std.proofs.Math.Dec.{eqb-suc-zero}
 use Rattle.std.proofs.lemmas.List.{append-nil, reverse-append}
 use Rattle.wasm_ast.specs.declared.instr.Instr.{Instr}
@@ -33,7 +33,7 @@ last_first : (os os' : List Outer) (o : Outer) → os' ≡ os ++ o ∷ [] → re
 last_first os os' o p = ap reverse p ∙ reverse-append os (o ∷ [])
 
 -- A construct begins. What stands behind it comes where its list is at its end, or where that of its second arm is.
-module _ (v : List Event) (s : Sequence) (i : Instr) (all is list : List Instr) (os os1 : List Outer) (o : Inner) (outer : Outer) (now : walk_events s all (reverse os) ≡ v) (first : all ≡ i ∷ is) (opens : opened_by i ≡ Some o) (lists : IsList s o.first list) (added : os1 ≡ os ++ outer ∷ []) (rest_is : outer.rest.now ≡ is) (behind : outer.is_second ≡ false) where
+module _ (v : List Event) (s : Sequence) (i : Instr) (all is list : List Instr) (os os1 : List Outer) (o : Inner) (outer : Outer) (now : walk_events s all (reverse os) ≡ v) (first : all ≡ i ∷ is) (opens : opened_by i ≡ Some o) (lists : IsList s o.first list) (added : os1 ≡ os ++ outer ∷ []) (rest_is : outer.rest.now ≡ is) (behind : outer.ends ≡ 1) where
   abbrev into : List Event → List Event
   into es = Begin o.construct o.of ∷ events (sequence_at s o.first) ++ es
 
@@ -58,7 +58,7 @@ module _ (v : List Event) (s : Sequence) (i : Instr) (all is list : List Instr) 
   pub block_next : o.second ≡ None → v ≡ Begin o.construct o.of ∷ walk_events s list (reverse os1)
   block_next none = begins ∙ ap (λ x. into (second_events s x rest ++ outside)) none ∙ ap into (sym goes_on) ∙ ap (λ es. Begin o.construct o.of ∷ es) (sym (listed os1))
 
-  pub if_next : (n : ℕ) (arm : List Instr) (os2 : List Outer) (second : Outer) → o.second ≡ Some n → IsList s n arm → os2 ≡ os1 ++ second ∷ [] → second.rest.now ≡ arm → second.is_second ≡ true → v ≡ Begin o.construct o.of ∷ walk_events s list (reverse os2)
+  pub if_next : (n : ℕ) (arm : List Instr) (os2 : List Outer) (second : Outer) → o.second ≡ Some n → IsList s n arm → os2 ≡ os1 ++ second ∷ [] → second.rest.now ≡ arm → second.ends ≡ 0 → v ≡ Begin o.construct o.of ∷ walk_events s list (reverse os2)
   if_next n arm os2 second some l p r t =
       let comes : outer_events s (reverse os2) ≡ second_events s (Some n) (outer_events s (reverse os1)) = rw (last_first os1 os2 second p, r, t, ← l 0) refl in
       begins ∙ ap (λ x. into (second_events s x rest ++ outside)) some
@@ -79,13 +79,13 @@ none_left (i ∷ is) h = absurd (omega arith)
 
 -- a list is at its end
 pub end_next : (v : List Event) (s : Sequence) (all : List Instr) (os os' : List Outer) (o : Outer) → walk_events s all (reverse os) ≡ v → length all ≡ 0 → os ≡ os' ++ o ∷ [] →
-    v ≡ end_event o.is_second (sequence (sequence_at s) o.rest.now) ∷ walk_events s o.rest.now (reverse os')
+    v ≡ end_event o.ends (sequence (sequence_at s) o.rest.now) ∷ walk_events s o.rest.now (reverse os')
 end_next v s all os os' o w a p = sym w ∙ ap (λ js. walk_events s js (reverse os)) (none_left all a) ∙ ap (walk_events s []) (last_first os' os o p)
 
 -- no instruction comes at the end of a list
 pub none_plain : (s : Sequence) (os : List Outer) → first_plain (walk_events s [] os) ≡ None
 none_plain s [] = refl
-none_plain s (o ∷ os) = ends o.is_second where
-  ends : (b : Bool) → first_plain (end_event b (sequence (sequence_at s) o.rest.now) ∷ walk_events s o.rest.now os) ≡ None
-  ends true = refl
-  ends false = refl
+none_plain s (o ∷ os) = ends o.ends where
+  ends : (n : ℕ) → first_plain (end_event n (sequence (sequence_at s) o.rest.now) ∷ walk_events s o.rest.now os) ≡ None
+  ends zero = refl
+  ends (suc n) = refl

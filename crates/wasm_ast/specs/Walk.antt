@@ -1,5 +1,5 @@
 -- What a walk over a body has still to meet.
-use Rattle.std.specs.Prelude.{◌≡◌, Bool, true, false, List, [], ◌∷◌, ◌++◌, Option, Some, None}
+use Rattle.std.specs.Prelude.{◌≡◌, ℕ, zero, suc, List, [], ◌∷◌, ◌++◌, Option, Some, None}
 use Rattle.wasm_ast.specs.declared.instr.Instr.{Instr}
 use Rattle.wasm_ast.specs.declared.walk.Event as code
 use Rattle.wasm_ast.specs.declared.walk.Event.TheVariants as event
@@ -17,16 +17,16 @@ event_of (event.Else b) = Else b
 event_of event.End = End
 
 -- what ends where a list does: the first arm of an if, in front of the second, or a construct
-abbrev pub end_event : Bool → Sequence → Event
-end_event true second = Else (is_empty second)
-end_event false behind = End
+abbrev pub end_event : ℕ → Sequence → Event
+end_event zero second = Else (is_empty second)
+end_event (suc n) behind = End
 
 -- what comes behind the innermost list
 abbrev pub outer_events : Sequence → List Outer → List Event
 outer_events s [] = []
 outer_events s (o ∷ os) =
     let rest = sequence (sequence_at s) o.rest.now in
-    end_event o.is_second rest ∷ events rest ++ outer_events s os
+    end_event o.ends rest ∷ events rest ++ outer_events s os
 
 abbrev pub walk_events : Sequence → List Instr → List Outer → List Event
 walk_events s is os = events (sequence (sequence_at s) is) ++ outer_events s os

@@ -7,6 +7,7 @@ use super::instr::{BlockKind, Construct, Instr};
 use super::types::ValType;
 use std::alloc::{AllocError, Global};
 use std::marker::Model;
+use std::mem;
 
 /// What comes next in the text of a body.
 #[derive(Clone, Copy)]
@@ -27,8 +28,9 @@ pub enum Event<'a> {
 pub(crate) struct Outer<'a> {
     /// The instructions that come then.
     pub(crate) rest: &'a [Instr],
-    /// Whether they are the second arm of an if whose first one has ended. Otherwise they stand behind a construct.
-    pub(crate) is_second: bool,
+    /// How many constructs end in front of them: one, or none where they are the second arm of an if. A word, since
+    /// room that holds nothing would be filled at each push.
+    pub(crate) ends: usize,
 }
 
 /// A walk over a body from its start to its end, over a stack of what comes behind the list that is open.
@@ -92,27 +94,25 @@ impl<'a> Walk<'a> {
                 self.rest = rest;
                 return Ok(Some(Event::Instruction(instr)));
             };
-            self.outer.push(Outer {
-                rest,
-                is_second: false,
-            })?;
+            // Taken out while it grows, for which its address is needed: otherwise the walk would be kept in memory.
+            let mut outer = mem::try_take(&mut self.outer)?;
+            outer.push(Outer { rest, ends: 1 })?;
             self.rest = self.body.list(inner.first);
             let begin = Event::Begin(inner.construct, inner.of);
             let Some(second) = inner.second else {
+                self.outer = outer;
                 return Ok(Some(begin));
             };
             let rest = self.body.list(second);
-            self.outer.push(Outer {
-                rest,
-                is_second: true,
-            })?;
+            outer.push(Outer { rest, ends: 0 })?;
+            self.outer = outer;
             return Ok(Some(begin));
         }
         let Some(outer) = self.outer.pop() else {
             return Ok(None);
         };
         self.rest = outer.rest;
-        if outer.is_second {
+        if outer.ends == 0 {
             let is_empty = self.rest.is_empty();
             return Ok(Some(Event::Else { is_empty }));
         }

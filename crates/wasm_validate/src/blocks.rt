@@ -151,6 +151,7 @@ impl Blocks {
     }
 
     /// Adds operands of those types.
+    #[inline(always)]
     pub fn push_all(&mut self, of: &[ValType]) -> Result<(), AllocError>
         ensures operands { OnOk result (self.new.operands ≡ push_operands of.now self.old.operands) }
         ensures enclosing { self.new.enclosing ≡ self.old.enclosing }

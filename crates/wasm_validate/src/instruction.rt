@@ -118,6 +118,7 @@ impl Context<'_> {
     }
 
     /// An access to memory.
+    #[inline(always)]
     fn access(&self, blocks: &mut Blocks, op: Access, arg: MemArg) -> Result<bool, AllocError>
         ensures operands { IfOk result (λ fits. ended fits blocks.new.operands ≡ after (context self.now) (labels_of blocks.old.enclosing) (instr.Access op arg) blocks.old.operands) }
         ensures enclosing { blocks.new.enclosing ≡ blocks.old.enclosing }
@@ -140,6 +141,7 @@ impl Context<'_> {
     }
 
     /// A numeric instruction other than a constant.
+    #[inline(always)]
     fn numeric(&self, blocks: &mut Blocks, op: NumericOp) -> Result<bool, AllocError>
         ensures operands { IfOk result (λ fits. ended fits blocks.new.operands ≡ after (context self.now) (labels_of blocks.old.enclosing) (instr.Numeric op) blocks.old.operands) }
         ensures enclosing { blocks.new.enclosing ≡ blocks.old.enclosing }

@@ -98,7 +98,6 @@ impl Context<'_> {
     }
 
     /// Whether all are indices of functions.
-    #[inline(never)]
     fn are_indices(&self, functions: &[u32]) -> bool
         ensures { result ≡ list_all (λ x. nat_lt x (length self.now.functions.now)) functions.now }
     {
