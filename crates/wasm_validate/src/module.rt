@@ -1,7 +1,7 @@
 // Whether a module is typed: WebAssembly Core 1.0, section 3.4.
-ghost use Rattle.std.specs.Prelude.{◌≡◌, IfOk, nat_lt, length, slice_get};
+ghost use Rattle.std.specs.Prelude.{◌≡◌, ◌++◌, IfOk, nat_lt, length, slice_get};
 ghost use Rattle.std.specs.List.{list_all};
-ghost use Rattle.wasm_ast.specs.TypingModule.{context_of, globals_of, is_global, is_element, is_segment, is_function_of, are_functions, is_declared, is_defined, is_typed};
+ghost use Rattle.wasm_ast.specs.TypingModule.{context_of, functions_of, globals_of, is_global, is_element, is_segment, is_function_of, are_functions, is_declared, is_defined, is_typed};
 ghost use Rattle.wasm_validate.specs.Context.{context};
 
 use super::context::{Context, ends};
@@ -10,17 +10,17 @@ use super::rules::{are_different, are_function_types, are_imports, are_memories,
 use std::alloc::{AllocError, Global};
 use wasm_ast::{Code, Element, GlobalVar, Module, Segment, ValType};
 
-/// Whether a module is typed (3.4.10).
-pub fn is_module(alloc: Global, checked: &Module) -> Result<bool, AllocError>
+/// Whether a module is typed, where the index of the type of each function is known, imported ones first (3.4.10).
+pub fn is_module(alloc: Global, checked: &Module, functions: &[u32]) -> Result<bool, AllocError>
+    requires { functions.now ≡ functions_of checked.now.imports ++ checked.now.functions }
     ensures { IfOk result (λ typed. typed ≡ is_typed checked.now) }
 {
     let imports = checked.imports.as_slice();
-    let functions = imported::functions(alloc, imports, checked.functions.as_slice())?;
     let imported = imported::globals(alloc, imports)?;
     let globals = imported::all_globals(alloc, imported.as_slice(), checked.globals.as_slice())?;
     let context = Context {
         types: checked.types.as_slice(),
-        functions: functions.as_slice(),
+        functions,
         tables: imported::tables(imports) + checked.tables.as_slice().len(),
         memories: imported::memories(imports) + checked.memories.as_slice().len(),
         globals: globals.as_slice(),

@@ -102,14 +102,14 @@ fn tables(alloc: Global, module: &Module) -> Result<(Vec<u32>, Vec<Option<u32>>)
     ensures valid { IfOk result (λ t. IsValid module.now t.0.items t.1.items) }
     ensures invalid_only { IfErr result (λ e. e ≡ ValidateFault.Invalid → is_typed module.now ≡ false) }
 {
-    if !is_module(alloc, module)? {
-        return Err(ValidateFault::Invalid);
-    }
     let functions = functions(
         alloc,
         module.imports.as_slice(),
         module.functions.as_slice(),
     )?;
+    if !is_module(alloc, module, functions.as_slice())? {
+        return Err(ValidateFault::Invalid);
+    }
     let places = first_places(alloc, module)?;
     Ok((functions, places))
 }
