@@ -1,32 +1,15 @@
 -- A value of a finite map that passes a test stands at a key, and one that stands at a key is among its values.
 use Rattle.std.proofs.Common.{◌≡◌, true, false, Bool, List, [], ◌∷◌, Some, cond, refl, sym, ap, ◌∙◌}
-use Rattle.std.specs.Prelude.{T, ◌&&◌, ◌||◌, map}
+use Rattle.std.specs.Prelude.{T, ◌||◌, map}
 use Rattle.std.specs.List.{list_any}
 use Rattle.std.specs.declared.cmp.Ordering.{Ordering}
 use Rattle.std.specs.declared.cmp.Ordering.TheVariants.{Less, Equal, Greater}
-use Rattle.std.specs.Ordering.{is_eq, is_lt, eq_by_cmp}
+use Rattle.std.specs.Ordering.{is_eq, eq_by_cmp}
 use Rattle.std.specs.Cmp.{IsTotalOrder, tied_itself}
 use Rattle.std.proofs.lemmas.Bool.{or_right}
 use Rattle.std.specs.FinMap.{FinMap, get, values, entries, find, is_sorted, entries_sorted, get-entries}
 use Rattle.std.specs.FinMap.Entries.{below_all}
-
-left : (a b : Bool) → T (a && b) → T a
-left true b p = tt
-left false b p = p
-
-right : (a b : Bool) → T (a && b) → T b
-right true b p = p
-right false b p = absurd p
-
-is_less : (r : Ordering) → T (is_lt r) → r ≡ Less
-is_less Less p = refl
-is_less Equal p = absurd p
-is_less Greater p = absurd p
-
-is_equal : (r : Ordering) → is_eq r ≡ true → r ≡ Equal
-is_equal Less p = cc
-is_equal Equal p = refl
-is_equal Greater p = cc
+use Rattle.finite_maps.proofs.Tests.{left, right, is_less, is_equal}
 
 module _ {K X : Type 0} {R : K → K → Ordering} (total : IsTotalOrder R) (p : X → Bool) where
   apart : (x k y : K) (r : Ordering) → R k x ≡ r → R x y ≡ Less → R k y ≡ Equal → is_eq r ≡ false
