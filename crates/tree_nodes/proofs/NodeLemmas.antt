@@ -8,11 +8,7 @@ use Rattle.std.specs.Map.{set_value, remove_entry}
 use Rattle.finite_maps.proofs.Maps.{get, insert, remove, from_entries, lookup, keys_of, nat_cmp, nat_cmp_total, nat_list_cmp_total, nat_cmp-IsAntisymmetric, nat_list_cmp-IsAntisymmetric, get-lookup, from_entries-insert, entries_of_sorted, get-insert_same, insert_same, insert-insert, remove-insert, remove_absent, unwrap_or-option_map, total, total-insert, total-remove}
 use Rattle.finite_maps.proofs.Options.{none_from}
 use Rattle.std.specs.Option.{option_copied_mut}
-use Rattle.tree_nodes.specs.Nodes.{NodeMap, sizes, size_of, size_found, size_of_node, bytes_of_all, changed, replaced, naming, forgetting, most_bytes, Fits, FitsAfter}
-use Rattle.tree_nodes.specs.declared.node.Content.{Content}
-use Rattle.tree_nodes.specs.declared.node.Content.TheVariants.{File, Dir}
-use Rattle.tree_nodes.specs.declared.node.Node.{Node}
-use Rattle.tree_nodes.specs.Nodes.{named, forgotten, is_free, lacks_name, lacks_name_at, with_change}
+use Rattle.tree_nodes.specs.Prelude.{NodeMap, sizes, size_of, size_found, size_of_node, bytes_of_all, changed, replaced, naming, forgetting, most_bytes, Fits, FitsAfter, named, forgotten, is_free, lacks_name, lacks_name_at, with_change, Content, File, Dir, Node}
 
 -- ---- the bytes of all files, after a change of one entry
 

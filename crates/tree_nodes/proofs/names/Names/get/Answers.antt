@@ -1,7 +1,5 @@
 use Rattle.std.proofs.Common.{sym, ap, ◌∙◌}
-use Rattle.std.specs.Cmp.Lexicographic.{nat_list_cmp_total}
-use Rattle.std.specs.FinMap.{get}
-use Rattle.finite_maps.proofs.Maps.{get-lookup}
+use Rattle.finite_maps.proofs.Maps.{get-lookup, nat_list_cmp_total, get}
 use Rattle.tree_nodes.proofs.names.Names.get.Goals as goal
 
 pub returns : goal.returns

@@ -1,7 +1,5 @@
 use Rattle.std.proofs.Common.{ap, ◌∙◌}
-use Rattle.std.specs.Cmp.Lexicographic.{nat_list_cmp_total}
-use Rattle.std.specs.FinMap.{insert}
-use Rattle.finite_maps.proofs.Maps.{from_entries-insert, nat_list_cmp-IsAntisymmetric}
+use Rattle.finite_maps.proofs.Maps.{from_entries-insert, nat_list_cmp-IsAntisymmetric, nat_list_cmp_total, insert}
 use Rattle.tree_nodes.proofs.names.Names.insert.Goals as goal
 
 pub returns-clause-ok : goal.returns-clause-ok

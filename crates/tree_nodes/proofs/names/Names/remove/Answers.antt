@@ -1,7 +1,5 @@
 use Rattle.std.proofs.Common.{ap, ◌∙◌}
-use Rattle.std.specs.Cmp.Lexicographic.{nat_list_cmp_total}
-use Rattle.std.specs.FinMap.{remove}
-use Rattle.finite_maps.proofs.Maps.{from_entries-remove, nat_list_cmp-IsAntisymmetric}
+use Rattle.finite_maps.proofs.Maps.{from_entries-remove, nat_list_cmp-IsAntisymmetric, nat_list_cmp_total, remove}
 use Rattle.tree_nodes.proofs.names.Names.remove.Goals as goal
 
 pub returns : goal.returns

@@ -1,7 +1,5 @@
 use Rattle.std.proofs.Common.{sym, ap, ◌∙◌}
-use Rattle.std.specs.FinMap.{get}
-use Rattle.std.specs.Cmp.{nat_cmp_total}
-use Rattle.finite_maps.proofs.Maps.{get-lookup}
+use Rattle.finite_maps.proofs.Maps.{get-lookup, get, nat_cmp_total}
 use Rattle.tree_nodes.proofs.nodes.Nodes.get.Goals as goal
 
 pub returns : goal.returns

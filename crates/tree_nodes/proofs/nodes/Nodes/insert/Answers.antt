@@ -1,11 +1,7 @@
 use Rattle.std.proofs.Common.{ap, ◌∙◌, arith}
 use Rattle.std.specs.BTreeMap.{is_at}
-use Rattle.std.specs.Ordering.{nat_cmp}
-use Rattle.std.specs.FinMap.{insert}
-use Rattle.std.specs.Cmp.{nat_cmp_total}
-use Rattle.std.specs.FinMap.{nat_cmp-IsAntisymmetric}
 use Rattle.tree_nodes.specs.Nodes.{sizes, size_found}
-use Rattle.finite_maps.proofs.Maps.{from_entries-insert}
+use Rattle.finite_maps.proofs.Maps.{from_entries-insert, nat_cmp, insert, nat_cmp-IsAntisymmetric, nat_cmp_total}
 use Rattle.tree_nodes.proofs.NodeLemmas.{size_found_le, sizes_inserted}
 use Rattle.tree_nodes.proofs.nodes.Nodes.insert.Goals as goal
 

@@ -1,9 +1,6 @@
 use Rattle.std.proofs.Common.{sym, ap, ◌∙◌, arith}
-use Rattle.std.specs.FinMap.{get}
-use Rattle.std.specs.Cmp.{nat_cmp_total}
-use Rattle.tree_nodes.specs.Nodes.{sizes, bytes_of_all, changed, with_change, resizing}
-use Rattle.tree_nodes.specs.declared.node.Node.{Node}
-use Rattle.finite_maps.proofs.Maps.{get-lookup}
+use Rattle.tree_nodes.specs.Prelude.{sizes, bytes_of_all, changed, with_change, resizing, Node}
+use Rattle.finite_maps.proofs.Maps.{get-lookup, get, nat_cmp_total}
 use Rattle.tree_nodes.proofs.NodeLemmas.{lent, not_lent, written_node, written_same, sizes_set, size_le, sizes_all, on_ok, on_err, fits_after, fits_either}
 use Rattle.tree_nodes.proofs.nodes.Nodes.resize.Goals as goal
 
