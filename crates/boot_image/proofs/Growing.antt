@@ -14,8 +14,9 @@ use Rattle.tree_nodes.specs.Nodes.{bytes_of_all, size_of, kind_of, size_found, l
 use Rattle.tree_nodes.specs.declared.node.Content.{Content as NodeContent}
 use Rattle.tree_nodes.specs.declared.node.Content.TheVariants.{File as FileNode, Dir}
 use Rattle.tree_nodes.specs.declared.node.Node.{Node}
-use Rattle.tree_nodes.proofs.MapLemmas.{put_at, put_off, len_new}
-use Rattle.tree_nodes.proofs.NodeLemmas.{changed_there, bytes_put, insert_twice}
+use Rattle.finite_maps.proofs.Maps.{get-insert_same, get-insert_other, len-insert_new, insert-insert}
+use Rattle.finite_maps.proofs.Options.{none_never, chained_from}
+use Rattle.tree_nodes.proofs.NodeLemmas.{changed_there, bytes_put}
 use Rattle.tree_nodes.specs.Names.{NameMap}
 use Rattle.path_walk.specs.Paths.{is_dot_dot}
 use Rattle.file_tree.specs.FileTree.{FileTree, root, only_root, new_node, named, parent_of, most_nodes, last_number, NodeMap, most_bytes, changed, writing, with_nodes}
@@ -24,7 +25,7 @@ use Rattle.file_tree.specs.Walk.{and_then, bytes_of, names_at, names_of, place_i
 use Rattle.file_tree.specs.Trees.{Leads, target, target_of, target_in, node_under, is_dir_node, IsName, IsTree}
 use Rattle.file_tree.specs.Listings.{stat_of}
 use Rattle.file_tree.specs.declared.listing.Stat.{Stat}
-use Rattle.file_tree.proofs.Links.{same_number, none_never, IsPlace}
+use Rattle.file_tree.proofs.Links.{same_number, IsPlace}
 use Rattle.file_tree.proofs.TreeLemmas.{NameSet, leads_is, leads_to, named_set, tree_with_new, there, linked_up}
 use Rattle.file_tree.specs.Files.{write_at, bytes_at, fitted, room_for}
 use Rattle.file_tree.specs.declared.place.Place.{Place}
@@ -33,7 +34,7 @@ use Rattle.boot_image.specs.Entries.{Content, Directory, File}
 use Rattle.boot_image.specs.Written.{content_of, content_of_kind}
 use Rattle.boot_image.specs.Same.{content_under}
 use Rattle.boot_image.specs.Image.{joined, plain_parts, made, with_entry}
-use Rattle.boot_image.proofs.Under.{under_linked, under_once, under_new, under_old, chain, Ending, none, some, ending}
+use Rattle.boot_image.proofs.Under.{under_linked, under_once, under_new, under_old, Ending, none, some, ending}
 use Rattle.boot_image.proofs.PlainPaths.{Plain, plain_of, parts_for, plain_joined}
 
 -- ---- what stands under a node
@@ -133,11 +134,11 @@ module _ (tree : FileTree) (ok : IsTree tree.nodes tree.next) (front : List (Lis
       omega (arith, bytes_put (named tree.nodes spot.dir last tree.next) tree.next (new_node spot.dir content), ap size_found (mid.unused tree.next fresh), bytes_put tree.nodes spot.dir v, old, new, ap bytes_of_all is_mid)
 
   pub new_at : (content : NodeContent) → get (added tree spot.dir last content).1.nodes tree.next ≡ Some (new_node spot.dir content)
-  new_at content = put_at nat_cmp_total nat_cmp-IsAntisymmetric (named tree.nodes spot.dir last tree.next) tree.next (new_node spot.dir content)
+  new_at content = get-insert_same nat_cmp_total (named tree.nodes spot.dir last tree.next) tree.next (new_node spot.dir content)
 
   module _ (good : IsName last) (content : Content) where
     new_off : (q : ℕ) → (q ≡ tree.next → ⊥) → get (grown tree spot.dir last content).nodes q ≡ get (named tree.nodes spot.dir last tree.next) q
-    new_off = put_off nat_cmp_total nat_cmp-IsAntisymmetric (named tree.nodes spot.dir last tree.next) tree.next (new_node spot.dir (node_content content))
+    new_off = get-insert_other nat_cmp_total nat_cmp-IsAntisymmetric (named tree.nodes spot.dir last tree.next) tree.next (new_node spot.dir (node_content content))
 
     -- a new node has no names
     no_names : (n : List ℕ) → target_in (node_content content) n ≡ None
@@ -157,10 +158,10 @@ module _ (tree : FileTree) (ok : IsTree tree.nodes tree.next) (front : List (Lis
         ∙ elim (same_number q spot.dir) [
           | inl e ↦
               ap (λ x. content_found (get (insert tree.nodes spot.dir (with_change (naming last tree.next) spot.leads.node)) x)) e
-              ∙ ap content_found (put_at nat_cmp_total nat_cmp-IsAntisymmetric tree.nodes spot.dir (with_change (naming last tree.next) spot.leads.node))
+              ∙ ap content_found (get-insert_same nat_cmp_total tree.nodes spot.dir (with_change (naming last tree.next) spot.leads.node))
               ∙ ap (λ c. content_kind (naming last tree.next c)) spot.leads.content
               ∙ sym (ap (λ x. content_found (get tree.nodes x)) e ∙ ap content_found spot.leads.there ∙ ap content_kind spot.leads.content)
-          | inr apart ↦ ap content_found (put_off nat_cmp_total nat_cmp-IsAntisymmetric tree.nodes spot.dir (with_change (naming last tree.next) spot.leads.node) q apart)
+          | inr apart ↦ ap content_found (get-insert_other nat_cmp_total nat_cmp-IsAntisymmetric tree.nodes spot.dir (with_change (naming last tree.next) spot.leads.node) q apart)
         ]
         ∙ sym (content_is tree q)
 
@@ -192,7 +193,7 @@ module _ (tree : FileTree) (ok : IsTree tree.nodes tree.next) (front : List (Lis
                 | inl f ↦ inl (f.1 ∙ ap (λ l. l ++ last ∷ []) (under_once tree.nodes tree.next ok f.0 front spot.dir f.2 spot.under))
                 | inr same ↦ inr (same_under ns same)
               ];
-          len = len_new nat_cmp_total nat_cmp-IsAntisymmetric (named tree.nodes spot.dir last tree.next) tree.next (new_node spot.dir (node_content content)) (mid.unused tree.next fresh) ∙ ap (λ n. n + 1) mid.len;
+          len = len-insert_new nat_cmp_total (named tree.nodes spot.dir last tree.next) tree.next (new_node spot.dir (node_content content)) (mid.unused tree.next fresh) ∙ ap (λ n. n + 1) mid.len;
           next = refl;
           bytes = new_bytes (node_content content);
         }
@@ -202,7 +203,7 @@ module _ (tree : FileTree) (ok : IsTree tree.nodes tree.next) (front : List (Lis
 pub root_alone : (names : List (List ℕ)) (content : Content) → content_under only_root names ≡ Some content → names ≡ []
 root_alone [] content e = refl
 root_alone (name ∷ names) content e =
-    let at : get only_root.nodes root ≡ Some (new_node root (Dir empty)) = put_at nat_cmp_total nat_cmp-IsAntisymmetric empty root (new_node root (Dir empty)) in
+    let at : get only_root.nodes root ≡ Some (new_node root (Dir empty)) = get-insert_same nat_cmp_total empty root (new_node root (Dir empty)) in
     let missing : target only_root.nodes root name ≡ None = ap (λ o. target_of o name) at ∙ get-empty (slice_cmp nat_cmp) name in
     absurd (let f = sym (ap (λ o. option_map (content_of only_root) (option_and_then (λ d. node_under only_root.nodes d names) o)) missing) ∙ e in let never : ⊥ = cc in never)
 
@@ -317,7 +318,7 @@ module _ (tree : FileTree) (ok : IsTree tree.nodes tree.next) (front : List (Lis
       let all : written [] 0 (byte ∷ bytes) ≡ byte ∷ bytes = ap (λ l. (byte ∷ bytes) ++ l) (drop_of_length-le [] {i = 0 + length (byte ∷ bytes)} (omega arith)) ∙ append-nil (byte ∷ bytes) in
       let filled : changed start.nodes tree.next (with_change (writing 0 (byte ∷ bytes))) ≡ (grown tree spot.dir last (File (byte ∷ bytes))).nodes =
       changed_there start.nodes tree.next (with_change (writing 0 (byte ∷ bytes))) (new_node spot.dir (FileNode [])) (new_at tree ok front last spot (FileNode []))
-      ∙ insert_twice (named tree.nodes spot.dir last tree.next) tree.next (new_node spot.dir (FileNode [])) (new_node spot.dir (FileNode (written [] 0 (byte ∷ bytes))))
+      ∙ insert-insert nat_cmp_total nat_cmp-IsAntisymmetric (named tree.nodes spot.dir last tree.next) tree.next (new_node spot.dir (FileNode [])) (new_node spot.dir (FileNode (written [] 0 (byte ∷ bytes))))
       ∙ ap (λ (l : List ℕ). (grown tree spot.dir last (File l)).nodes) all in
       ap (λ r. and_then r (λ old. cond (eqb (length (byte ∷ bytes)) 0) (Ok start) (fitted start tree.next (writing 0 (byte ∷ bytes)) (length old) (0 + length (byte ∷ bytes)) (max (length old) (0 + length (byte ∷ bytes)))))) empty_there
       ∙ ap (λ b. cond b (Ok start) (fitted start tree.next (writing 0 (byte ∷ bytes)) (length {A = ℕ} []) (0 + length (byte ∷ bytes)) (max (length {A = ℕ} []) (0 + length (byte ∷ bytes))))) some
@@ -370,7 +371,7 @@ pub record Led (tree : FileTree) (path : List ℕ) (content : Content) (after : 
 pub entry_led : (tree after : FileTree) (path : List ℕ) (content : Content) → IsTree tree.nodes tree.next → with_entry tree (record { path = path; content = content }) ≡ Some after → Led tree path content after
 unfolding with_entry
 entry_led tree after path content ok e =
-    let p = chain (plain_parts path) (λ parts. result_ok (made tree parts content)) after e in
+    let p = chained_from (λ parts. result_ok (made tree parts content)) (plain_parts path) after e in
     let plain = plain_of path p.0 p.1 in
     by plain (ending plain.names)
   where
@@ -407,5 +408,5 @@ entry_led tree after path content ok e =
         let all : AllByRecursion IsName (front ++ last ∷ []) = subst (AllByRecursion IsName) is plain.good in
         let short : length (joined (front ++ last ∷ [])) ≤ 1024 = omega (arith, plain.short, ap length plain.is, ap (λ l. length (joined l)) is) in
         let led = sym (entry_is tree front last all short content) ∙ ap (λ p. with_entry tree (record { path = p; content = content })) (ap joined (sym is) ∙ sym plain.is) ∙ e in
-        let d = chain (node_under tree.nodes root front) (λ d. option_and_then (put tree front last all short content) (last_in tree.nodes last d)) after led in
+        let d = chained_from (λ d. option_and_then (put tree front last all short content) (last_in tree.nodes last d)) (node_under tree.nodes root front) after led in
         found front last all short d.0 d.1 (names_at tree.nodes d.0) refl d.2

@@ -16,7 +16,7 @@ use Rattle.boot_image.specs.Answers.{Means}
 use Rattle.boot_image.specs.Image.{Image, Remains, with_entry, with_entries}
 use Rattle.boot_image.specs.Steps.{IsBytes, Goes, Makes}
 use Rattle.boot_image.proofs.Items.{IsBytes-behind, Stands, next_takes, next_again, first_of, behind_first}
-use Rattle.boot_image.proofs.Under.{chain}
+use Rattle.finite_maps.proofs.Options.{chained_from}
 
 -- what leads from one tree to another, where this stands next
 abbrev Follows : Next → List ℕ → FileTree → FileTree → Type 0
@@ -36,7 +36,7 @@ follows bytes read before after is remains =
     by : (entries : List Entry) → AllByRecursion Fits entries → with_entries before entries ≡ Some after → FollowsRead (Ok (first_of entries)) before after
     by [] fit gives = (refl, cc)
     by (entry ∷ entries) fit gives =
-        let first = chain (with_entry before entry) (λ next. with_entries next entries) after gives in
+        let first = chained_from (λ next. with_entries next entries) (with_entry before entry) after gives in
         (first.0, first.1, record { entries = entries; fit = fit.1; are = refl; gives = first.2 })
 
 followed : (next : Next) (bytes rest : List ℕ) (before after : FileTree) → Stands next bytes rest → Follows next rest before after → Remains bytes before after

@@ -1,23 +1,16 @@
 -- Parents and names: what a new name, a name that goes and a node that moves leave of the tree below the root.
 use Rattle.std.proofs.Common.{◌≡◌, ℕ, zero, suc, List, Option, Some, None, Ordering, Less, Equal, Greater, nat_cmp, refl, sym, ap, subst, subst₂, ◌∙◌, ◌⊎◌, inl, inr}
-use Rattle.std.specs.Cmp.{tied_itself}
-use Rattle.std.specs.Cmp.Lexicographic.{slice_cmp, nat_list_cmp_total}
-use Rattle.std.specs.FinMap.{slice_cmp-IsAntisymmetric, nat_cmp-IsAntisymmetric}
-use Rattle.std.proofs.lemmas.Bool.Decides.{eqb_tells}
+use Rattle.finite_maps.proofs.Maps.{nat_cmp_total, nat_cmp-IsAntisymmetric, nat_list_cmp_total, nat_list_cmp-IsAntisymmetric, same_key}
+use Rattle.finite_maps.proofs.Options.{none_never, same_found}
 use Rattle.file_tree.specs.FileTree.{root}
 use Rattle.file_tree.specs.Trees.{IsName, IsNamed, Climbs, AreLinks}
 
 -- two numbers, or two names, are one or not
 pub same_number : (a b : ℕ) → (a ≡ b) ⊎ (a ≡ b → ⊥)
-same_number a b = elim (eqb_tells a b) [ inl t ↦ inl t.1 | inr t ↦ inr t.1 ]
+same_number = same_key nat_cmp_total nat_cmp-IsAntisymmetric
 
 pub same_name : (a b : List ℕ) → (a ≡ b) ⊎ (a ≡ b → ⊥)
-same_name a b = told (slice_cmp nat_cmp a b) refl
-  where
-    told : (r : Ordering) → slice_cmp nat_cmp a b ≡ r → (a ≡ b) ⊎ (a ≡ b → ⊥)
-    told Less e = inr (λ is. let itself : slice_cmp nat_cmp a b ≡ Equal = subst (λ c. slice_cmp nat_cmp a c ≡ Equal) is (tied_itself nat_list_cmp_total a) in let never : ⊥ = cc in never)
-    told Equal e = inl (slice_cmp-IsAntisymmetric nat_cmp-IsAntisymmetric a b e)
-    told Greater e = inr (λ is. let itself : slice_cmp nat_cmp a b ≡ Equal = subst (λ c. slice_cmp nat_cmp a c ≡ Equal) is (tied_itself nat_list_cmp_total a) in let never : ⊥ = cc in never)
+same_name = same_key nat_list_cmp_total nat_list_cmp-IsAntisymmetric
 
 abbrev pub IsPlace : ℕ → List ℕ → ℕ → List ℕ → Type 0
 IsPlace dir name d n = (d ≡ dir) × (n ≡ name)
@@ -28,15 +21,6 @@ same_place dir name d n =
       | inl e ↦ elim (same_name n name) [ inl f ↦ inl (e, f) | inr f ↦ inr (λ p. f p.1) ]
       | inr e ↦ inr (λ p. e p.0)
     ]
-
-pub some_is : (a b : ℕ) → ◌≡◌ {A = Option ℕ} (Some a) (Some b) → a ≡ b
-some_is a b e = cc
-
-pub none_never : (o : Option ℕ) (a : ℕ) → o ≡ None → o ≡ Some a → ⊥
-none_never o a n s = cc
-
-pub same_found : (o : Option ℕ) (a b : ℕ) → o ≡ Some a → o ≡ Some b → a ≡ b
-same_found o a b x y = some_is a b (sym x ∙ y)
 
 -- so many steps up lead from one node to another
 abbrev pub Steps : (ℕ → Option ℕ) → ℕ → ℕ → ℕ → Type 0

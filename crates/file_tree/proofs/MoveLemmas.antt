@@ -1,18 +1,17 @@
 -- What a move leaves of a tree.
 use Rattle.std.proofs.Common.{◌≡◌, ℕ, zero, suc, ◌<◌, ◌≤◌, Bool, true, false, cond, not, ◌&&◌, eqb, List, Ok, Err, Option, Some, None, refl, sym, ap, subst, ◌∙◌, inl, inr, arith, eq-eqb}
-use Rattle.std.specs.Cmp.{nat_cmp_total}
-use Rattle.std.specs.FinMap.{get, remove, len, nat_cmp-IsAntisymmetric}
+use Rattle.finite_maps.proofs.Maps.{get, remove, len, nat_cmp_total, nat_cmp-IsAntisymmetric, get-remove_other, len_positive, len-remove_there}
+use Rattle.finite_maps.proofs.Options.{none_never, same_found}
 use Rattle.std.specs.List.{list_any}
 use Rattle.std.proofs.lemmas.Bool.{false≢true, or_left, or_right}
 use Rattle.file_tree.specs.FileTree.{NodeMap, root, parent_of, settled, linked_in, unlinked, named, forgotten}
 use Rattle.file_tree.specs.Walk.{and_then, content_at}
 use Rattle.file_tree.specs.Names.{is_dir, is_node, may_replace, may_replace_at, has_no_names, removed, moved, replacing, up_from, above, is_within}
 use Rattle.file_tree.specs.Trees.{Leads, target, target_of, is_dir_node, IsName, Climbs, AreLinks, IsTree}
-use Rattle.file_tree.proofs.Links.{same_number, IsPlace, none_never, same_found, climbs_once, root_stays, with_moved, Steps}
+use Rattle.file_tree.proofs.Links.{same_number, IsPlace, climbs_once, root_stays, with_moved, Steps}
 use Rattle.file_tree.proofs.Ends.{then_ok, content_found}
 use Rattle.file_tree.proofs.TreeLemmas.{linked_up, there, leads_is, leads_to, named_set, forgotten_set, put_parent, unlinked_set, no_names_in, gone_of}
 use Rattle.file_tree.proofs.WalkLemmas.{apart}
-use Rattle.tree_nodes.proofs.MapLemmas.{taken_off, len_some, len_taken}
 use Rattle.tree_nodes.proofs.NodeLemmas.{changed_there}
 use Rattle.tree_nodes.specs.Nodes.{is_linked, parent_of_node}
 use Rattle.wx_types.specs.declared.errors.Errno.TheVariants.{Notdir, Isdir, Notempty}
@@ -24,16 +23,16 @@ shift : (nodes : NodeMap) (n k : ℕ) → Climbs (parent_of nodes) k n → (j x 
 shift nodes n k at zero x lt c = c
 shift nodes n k at (suc j) x lt c =
     let other : x ≡ n → ⊥ = λ e. absurd (let same : suc j ≡ k = climbs_once (parent_of nodes) (suc j) k n (subst (Climbs (parent_of nodes) (suc j)) e c) at in let never : ⊥ = omega (arith, same, lt) in never) in
-    (c.0, c.1, ap parent_of_node (taken_off nat_cmp_total nat_cmp-IsAntisymmetric nodes n x other) ∙ c.2, shift nodes n k at j c.1 (omega (arith, lt)) c.3)
+    (c.0, c.1, ap parent_of_node (get-remove_other nat_cmp_total nat_cmp-IsAntisymmetric nodes n x other) ∙ c.2, shift nodes n k at j c.1 (omega (arith, lt)) c.3)
 
 -- fewer steps lead up to the root than there are nodes
 depth : (k n : ℕ) (nodes : NodeMap) (top : Node) → get nodes root ≡ Some top → Climbs (parent_of nodes) k n → k < len nodes
-depth zero n nodes top is c = len_some nat_cmp_total nat_cmp-IsAntisymmetric nodes root top is
+depth zero n nodes top is c = len_positive nat_cmp_total nodes root top is
 depth (suc k) n nodes top is c =
     let v = there nodes n c.1 c.2 in
-    let top-stays : get (remove nodes n) root ≡ Some top = taken_off nat_cmp_total nat_cmp-IsAntisymmetric nodes n root (λ e. c.0 (sym e)) ∙ is in
+    let top-stays : get (remove nodes n) root ≡ Some top = get-remove_other nat_cmp_total nat_cmp-IsAntisymmetric nodes n root (λ e. c.0 (sym e)) ∙ is in
     let rest = depth k c.1 (remove nodes n) top top-stays (shift nodes n (suc k) c k c.1 (omega arith) c.3) in
-    omega (arith, rest, len_taken nat_cmp_total nat_cmp-IsAntisymmetric nodes n v.0 v.1)
+    omega (arith, rest, len-remove_there nat_cmp_total nodes n v.0 v.1)
 
 module _ (nodes : NodeMap) (links : AreLinks (parent_of nodes) (target nodes)) (number : ℕ) (below : number ≡ root → ⊥) where
   found : (m k n j : ℕ) → Climbs (parent_of nodes) k n → k < m → Steps (parent_of nodes) j n number → list_any (λ x. eqb x number) (up_from m nodes (Some n)) ≡ true

@@ -1,5 +1,5 @@
 -- What a finite map has at a key after a change there, and at the other keys.
-use Rattle.std.proofs.Common.{◌≡◌, ◌≢◌, true, false, Bool, Option, Some, None, cond, refl, sym, ap, ◌∙◌}
+use Rattle.std.proofs.Common.{◌≡◌, ◌≢◌, true, false, Bool, Option, Some, None, ◌⊎◌, cond, inl, inr, refl, sym, ap, ◌∙◌}
 use Rattle.std.specs.declared.cmp.Ordering.{Ordering}
 use Rattle.std.specs.declared.cmp.Ordering.TheVariants.{Less, Equal, Greater}
 use Rattle.std.specs.Ordering.{is_eq, eq_by_cmp, nat_cmp}
@@ -14,6 +14,15 @@ nat_list_cmp-IsAntisymmetric = slice_cmp-IsAntisymmetric nat_cmp-IsAntisymmetric
 -- keys that differ don't compare as equal
 pub differ : {K : Type 0} {R : K → K → Ordering} → IsAntisymmetric R → (q k : K) → q ≢ k → eq_by_cmp R q k ≡ false
 differ {R = R} exact q k ne = elim (R q k) as (λ r. R q k ≡ r → is_eq r ≡ false) [ Less ↦ λ e. refl | Equal ↦ λ e. absurd (ne (exact q k e)) | Greater ↦ λ e. refl ] refl
+
+-- two keys are one or not
+pub same_key : {K : Type 0} {R : K → K → Ordering} → IsTotalOrder R → IsAntisymmetric R → (q k : K) → (q ≡ k) ⊎ (q ≢ k)
+same_key {R = R} total exact q k = told (R q k) refl
+  where
+    told : (r : Ordering) → R q k ≡ r → (q ≡ k) ⊎ (q ≢ k)
+    told Less e = inr (λ same. let never : ◌≡◌ {A = Ordering} Less Equal = sym e ∙ ap (λ x. R x k) same ∙ tied_itself total k in cc)
+    told Equal e = inl (exact q k e)
+    told Greater e = inr (λ same. let never : ◌≡◌ {A = Ordering} Greater Equal = sym e ∙ ap (λ x. R x k) same ∙ tied_itself total k in cc)
 
 module _ {K X : Type 0} {R : K → K → Ordering} (total : IsTotalOrder R) where
   pub get-insert_same : (m : FinMap R X) (k : K) (v : X) → get (insert m k v) k ≡ Some v
@@ -73,14 +82,10 @@ module _ {K X : Type 0} {R : K → K → Ordering} (total : IsTotalOrder R) wher
 
     by_key : (m : FinMap R X) (k : K) (o old : Option X) (q : K) → get m k ≡ o → (q ≢ k → get m q ≡ old) → get m q ≡ cond (eq_by_cmp R q k) o old
     by_key m k o old q here there =
-        elim (R q k) as (λ r. R q k ≡ r → get m q ≡ cond (is_eq r) o old) [
-          | Less ↦ λ e. there (λ same. let never : ◌≡◌ {A = Ordering} Less Equal = sym e ∙ tied q k same in cc)
-          | Equal ↦ λ e. ap (get m) (exact q k e) ∙ here
-          | Greater ↦ λ e. there (λ same. let never : ◌≡◌ {A = Ordering} Greater Equal = sym e ∙ tied q k same in cc)
-        ] refl
-      where
-        tied : (q k : K) → q ≡ k → R q k ≡ Equal
-        tied q k same = ap (λ x. R x k) same ∙ tied_itself total k
+        elim (same_key total exact q k) [
+          | inl same ↦ ap (get m) same ∙ here ∙ sym (ap (λ r. cond (is_eq r) o old) (ap (λ x. R x k) same ∙ tied_itself total k))
+          | inr other ↦ there other ∙ sym (ap (λ b. cond b o old) (differ exact q k other))
+        ]
 
     -- one that has v at k, and elsewhere what another has, is the other with v inserted at k
     pub is_insert : (old new : FinMap R X) (k : K) (v : X) → get new k ≡ Some v → ((q : K) → q ≢ k → get new q ≡ get old q) → new ≡ insert old k v

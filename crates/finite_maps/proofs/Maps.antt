@@ -7,7 +7,7 @@ pub use Rattle.std.specs.Map.{lookup, keys_of}
 pub use Rattle.finite_maps.specs.Maps.{mapped}
 unfoldable pub use Rattle.finite_maps.specs.Maps.{total}
 pub use Rattle.finite_maps.proofs.Entries.{find-lookup, get-lookup, from_entries-insert, from_entries-remove, entries-empty, entries_of_sorted, len_of_sorted, entries_rise, entries_insert}
-pub use Rattle.finite_maps.proofs.Lookups.{differ, get-insert_same, get-insert_other, get-remove_same, get-remove_other, insert_same, remove_absent, insert-insert, insert-remove, remove-insert, is_insert, is_remove, nat_list_cmp-IsAntisymmetric}
+pub use Rattle.finite_maps.proofs.Lookups.{differ, same_key, get-insert_same, get-insert_other, get-remove_same, get-remove_other, insert_same, remove_absent, insert-insert, insert-remove, remove-insert, is_insert, is_remove, nat_list_cmp-IsAntisymmetric}
 pub use Rattle.finite_maps.proofs.Mapped.{get-mapped}
 pub use Rattle.finite_maps.proofs.Sizes.{len-insert_there, len-insert_new, len_positive, len-remove_there}
 pub use Rattle.finite_maps.proofs.Sums.{unwrap_or-option_map, total-empty, total-insert, total-remove, part-le_total, total-le_len, total-above, total-any, total-positive}

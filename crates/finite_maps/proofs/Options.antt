@@ -1,6 +1,14 @@
 -- What an option that a map, a chain or a default makes comes from.
-use Rattle.std.proofs.Common.{◌≡◌, true, false, Option, Some, None, is_some, is_none, Ok, Err, refl}
+use Rattle.std.proofs.Common.{◌≡◌, true, false, Option, Some, None, is_some, is_none, Ok, Err, refl, sym, ◌∙◌}
+use Rattle.std.proofs.lemmas.Option.{same_Some}
 use Rattle.std.specs.Option.{option_map, option_and_then, ok_or}
+
+pub none_never : {A : Type 0} (o : Option A) (x : A) → o ≡ None → o ≡ Some x → ⊥
+none_never o x none some = cc
+
+-- an option has one value
+pub same_found : {A : Type 0} (o : Option A) (x y : A) → o ≡ Some x → o ≡ Some y → x ≡ y
+same_found o x y a b = same_Some x y (sym a ∙ b)
 
 pub mapped_from : {A B : Type 0} (f : A → B) (o : Option A) (y : B) → option_map f o ≡ Some y → (x : A) × (o ≡ Some x) × (f x ≡ y)
 mapped_from f None y e = cc

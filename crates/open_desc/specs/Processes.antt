@@ -8,7 +8,7 @@ use Rattle.std.specs.FinMap.{FinMap, get, insert, remove, empty, values}
 use Rattle.wx_types.specs.declared.errors.Errno.{Errno}
 use Rattle.fd_table.specs.declared.table.Descriptor.{Descriptor}
 use Rattle.fd_table.specs.Table.{Table, lowest_free, after_put, dup_answer, after_dup, renumber_answer, after_renumber, close_answer, after_close, dropped_ids, after_exec}
-use Rattle.fd_table.specs.Totals.{total}
+use Rattle.finite_maps.specs.Maps.{total}
 use Rattle.open_desc.specs.Descriptions.{Descriptions, references_of, after_open, after_share, after_release, is_end, end_left}
 use Rattle.open_desc.specs.declared.description.Description.{Description}
 
