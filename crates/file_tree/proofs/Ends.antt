@@ -4,20 +4,9 @@ use Rattle.std.specs.FinMap.{get}
 use Rattle.finite_maps.proofs.Options.{ok_from}
 use Rattle.std.specs.List.{last_or, AllByRecursion}
 use Rattle.std.proofs.lemmas.Bool.{false≢true, or_right}
-use Rattle.path_walk.specs.Paths.{PathParts, AreParts, IsComponent, is_dot, is_dot_dot, is_dots}
-use Rattle.file_tree.specs.FileTree.{NodeMap, root, parent_of}
-use Rattle.file_tree.specs.Names.{is_dir}
-use Rattle.file_tree.specs.Trees.{Leads, is_dir_node, IsName, IsTree}
-use Rattle.file_tree.specs.Walk.{and_then, names_of, content_at, names_at, place_itself, step, walk_on, is_dir_or_missing, walk, last_name, is_nil, names_no_entry}
-use Rattle.file_tree.specs.declared.place.Place.{Place}
+use Rattle.file_tree.specs.Prelude.{PathParts, AreParts, IsComponent, is_dot, is_dot_dot, is_dots, NodeMap, root, parent_of, is_dir, Leads, is_dir_node, IsName, IsTree, and_then, names_of, content_at, names_at, place_itself, step, walk_on, is_dir_or_missing, walk, last_name, is_nil, names_no_entry, Place, NameMap, Content, File, Dir, Node, Errno, Noent}
 use Rattle.file_tree.proofs.Links.{same_number}
 use Rattle.file_tree.proofs.TreeLemmas.{leads_to}
-use Rattle.tree_nodes.specs.Names.{NameMap}
-use Rattle.tree_nodes.specs.declared.node.Content.{Content}
-use Rattle.tree_nodes.specs.declared.node.Content.TheVariants.{File, Dir}
-use Rattle.tree_nodes.specs.declared.node.Node.{Node}
-use Rattle.wx_types.specs.declared.errors.Errno.{Errno}
-use Rattle.wx_types.specs.declared.errors.Errno.TheVariants.{Noent}
 
 pub then_ok : {X Y : Type 0} (r : Result X Errno) (f : X → Result Y Errno) (y : Y) → and_then r f ≡ Ok y → (x : X) × (r ≡ Ok x) × (f x ≡ Ok y)
 then_ok (Ok x) f y e = (x, refl, e)

@@ -1,9 +1,8 @@
 -- Parents and names: what a new name, a name that goes and a node that moves leave of the tree below the root.
-use Rattle.std.proofs.Common.{◌≡◌, ℕ, zero, suc, List, Option, Some, None, Ordering, Less, Equal, Greater, nat_cmp, refl, sym, ap, subst, subst₂, ◌∙◌, ◌⊎◌, inl, inr}
+use Rattle.std.proofs.Common.{◌≡◌, ℕ, zero, suc, List, Option, Some, None, refl, sym, ap, subst, subst₂, ◌∙◌, ◌⊎◌, inl, inr}
 use Rattle.finite_maps.proofs.Maps.{nat_cmp_total, nat_cmp-IsAntisymmetric, nat_list_cmp_total, nat_list_cmp-IsAntisymmetric, same_key}
 use Rattle.finite_maps.proofs.Options.{none_never, same_found}
-use Rattle.file_tree.specs.FileTree.{root}
-use Rattle.file_tree.specs.Trees.{IsName, IsNamed, Climbs, AreLinks}
+use Rattle.file_tree.specs.Prelude.{root, IsName, IsNamed, Climbs, AreLinks}
 
 -- two numbers, or two names, are one or not
 pub same_number : (a b : ℕ) → (a ≡ b) ⊎ (a ≡ b → ⊥)

@@ -4,18 +4,12 @@ use Rattle.finite_maps.proofs.Maps.{get, remove, len, nat_cmp_total, nat_cmp-IsA
 use Rattle.finite_maps.proofs.Options.{none_never, same_found}
 use Rattle.std.specs.List.{list_any}
 use Rattle.std.proofs.lemmas.Bool.{false≢true, or_left, or_right}
-use Rattle.file_tree.specs.FileTree.{NodeMap, root, parent_of, settled, linked_in, unlinked, named, forgotten}
-use Rattle.file_tree.specs.Walk.{and_then, content_at}
-use Rattle.file_tree.specs.Names.{is_dir, is_node, may_replace, may_replace_at, has_no_names, removed, moved, replacing, up_from, above, is_within}
-use Rattle.file_tree.specs.Trees.{Leads, target, target_of, is_dir_node, IsName, Climbs, AreLinks, IsTree}
+use Rattle.file_tree.specs.Prelude.{NodeMap, root, parent_of, settled, linked_in, unlinked, named, forgotten, and_then, content_at, is_dir, is_node, may_replace, may_replace_at, has_no_names, removed, moved, replacing, up_from, above, is_within, Leads, target, target_of, is_dir_node, IsName, Climbs, AreLinks, IsTree, is_linked, parent_of_node, Notdir, Isdir, Notempty, Node}
 use Rattle.file_tree.proofs.Links.{same_number, IsPlace, climbs_once, root_stays, with_moved, Steps}
 use Rattle.file_tree.proofs.Ends.{then_ok, content_found}
 use Rattle.file_tree.proofs.TreeLemmas.{linked_up, there, leads_is, leads_to, named_set, forgotten_set, put_parent, unlinked_set, no_names_in, gone_of}
 use Rattle.file_tree.proofs.WalkLemmas.{apart}
 use Rattle.tree_nodes.proofs.NodeLemmas.{changed_there}
-use Rattle.tree_nodes.specs.Nodes.{is_linked, parent_of_node}
-use Rattle.wx_types.specs.declared.errors.Errno.TheVariants.{Notdir, Isdir, Notempty}
-use Rattle.tree_nodes.specs.declared.node.Node.{Node}
 
 -- ---- a directory is not below a node
 

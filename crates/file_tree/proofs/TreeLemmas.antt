@@ -1,18 +1,12 @@
 -- What the calls leave of a tree.
-use Rattle.std.proofs.Common.{◌≡◌, ℕ, zero, ◌+◌, ◌-◌, ◌<◌, ◌≤◌, true, false, cond, eqb, List, Option, Some, None, is_some, is_none, nat_cmp, refl, sym, ap, subst, ◌∙◌, inl, inr, arith, eqb-true}
+use Rattle.std.proofs.Common.{◌≡◌, ℕ, zero, ◌+◌, ◌-◌, ◌<◌, ◌≤◌, true, false, cond, eqb, List, Option, Some, None, is_some, nat_cmp, refl, sym, ap, subst, ◌∙◌, inl, inr, arith, eqb-true}
 use Rattle.finite_maps.proofs.Maps.{get, insert, remove, len, empty, empty_of_len, get-empty, len-empty, slice_cmp, nat_cmp_total, nat_cmp-IsAntisymmetric, nat_list_cmp_total, nat_list_cmp-IsAntisymmetric, get-insert_same, get-insert_other, get-remove_same, get-remove_other, len-insert_there, len-insert_new, len-remove_there}
 use Rattle.finite_maps.proofs.Options.{none_never, same_found, some_from, none_from, not_some}
 use Rattle.std.proofs.lemmas.Bool.{false≢true}
-use Rattle.file_tree.specs.FileTree.{NodeMap, root, new_node, parent_of, most_nodes, last_number, changed, settled, unlinked, let_go, with_change, named, forgotten}
-use Rattle.file_tree.specs.Names.{is_dir, has_no_names, removed}
-use Rattle.file_tree.specs.Trees.{Leads, target, target_of, target_in, is_dir_node, IsName, IsTree}
+use Rattle.file_tree.specs.Prelude.{NodeMap, root, new_node, parent_of, most_nodes, last_number, changed, settled, unlinked, let_go, with_change, named, forgotten, is_dir, has_no_names, removed, Leads, target, target_of, target_in, is_dir_node, IsName, IsTree, NameMap, Content, File, Dir, Node}
 use Rattle.file_tree.proofs.Links.{same_number, IsPlace, same_links, unlinked_empty, with_new, without_name}
 use Rattle.tree_nodes.proofs.NodeLemmas.{changed_there}
-use Rattle.tree_nodes.specs.Names.{NameMap}
 use Rattle.tree_nodes.specs.Nodes.{is_linked, is_linked_node, resizing, writing, replaced, kept, kept_if_there, parent_of_node, is_free, lacks_name, lacks_name_at, naming, forgetting}
-use Rattle.tree_nodes.specs.declared.node.Content.{Content}
-use Rattle.tree_nodes.specs.declared.node.Content.TheVariants.{File, Dir}
-use Rattle.tree_nodes.specs.declared.node.Node.{Node}
 
 -- ---- one node of the map
 

@@ -1,11 +1,8 @@
 use Rattle.std.proofs.Common.{◌+◌, sym, ap, subst, ◌∙◌, arith}
 use Rattle.std.specs.FinMap.{insert}
-use Rattle.file_tree.specs.FileTree.{FileTree, new_node, named}
-use Rattle.file_tree.specs.Trees.{IsTree}
-use Rattle.file_tree.specs.Walk.{last_name}
+use Rattle.file_tree.specs.Prelude.{FileTree, new_node, named, IsTree, last_name, is_free}
 use Rattle.finite_maps.proofs.Options.{not_some}
 use Rattle.file_tree.proofs.TreeLemmas.{tree_with_new, linked_up}
-use Rattle.tree_nodes.specs.Nodes.{is_free}
 use Rattle.file_tree.proofs.tree.Tree.make.Goals as goal
 
 pub invariant_of-self-2 : goal.invariant_of-self-2
