@@ -83,8 +83,8 @@ pub without_marked_below-unmarked : (table : Table) (n : ℕ) → marked_id tabl
 without_marked_below-unmarked table n unmarked =
     same_map nat_cmp_total nat_cmp-IsAntisymmetric _ _
     (λ q.
-        elim (same_key nat_cmp_total nat_cmp-IsAntisymmetric q n) [
-          | inl e ↦ subst (λ k. get (without_marked_below table (n + 1)) k ≡ get (without_marked_below table n) k) (sym e)
-              (here table n ∙ ap (λ o. cond (not (is_some o)) (get table n) None) unmarked ∙ sym (get_at table n))
-          | inr ne ↦ others table n q ne
-        ])
+    elim (same_key nat_cmp_total nat_cmp-IsAntisymmetric q n) [
+      | inl e ↦ subst (λ k. get (without_marked_below table (n + 1)) k ≡ get (without_marked_below table n) k) (sym e)
+          (here table n ∙ ap (λ o. cond (not (is_some o)) (get table n) None) unmarked ∙ sym (get_at table n))
+      | inr ne ↦ others table n q ne
+    ])

@@ -2,20 +2,12 @@
 use Rattle.std.proofs.Common.{◌≡◌, ℕ, ◌+◌, ◌-◌, ◌<◌, ◌≤◌, Bool, true, false, cond, [], Option, Some, None, is_some, IsSome, IsSomeAnd, Result, Ok, Err, is_err, OnOk, ltb, refl, sym, ap, ◌∙◌, arith}
 use Rattle.std.specs.Bool.{if◌then◌else◌}
 use Rattle.std.specs.Option.{option_map_or}
-use Rattle.std.specs.Ordering.{nat_cmp}
-use Rattle.std.specs.Cmp.{nat_cmp_total}
 use Rattle.std.specs.BTreeMap.{BTreeMap}
-use Rattle.std.specs.FinMap.{get, insert, remove, empty, values, len, len-empty, len-insert, len-remove}
 use Rattle.std.specs.List.{list_any}
 use Rattle.std.proofs.lemmas.Grind.{common_steps}
 use Rattle.std.proofs.lemmas.Bool.{false≢true}
-use Rattle.finite_maps.specs.Maps.{total}
-use Rattle.finite_maps.proofs.Maps.{nat_cmp-IsAntisymmetric, total-empty, total-insert, total-remove, total-le_len, total-any, part-le_total}
-use Rattle.open_desc.specs.Codes.{Opens}
-use Rattle.open_desc.specs.Descriptions.{is_end}
-use Rattle.open_desc.specs.Ends.{count_of, end_weight, Counts, AreCounted}
-use Rattle.open_desc.specs.declared.description.Kind.{Kind}
-use Rattle.open_desc.specs.declared.description.Opened.{Opened}
+use Rattle.finite_maps.proofs.Maps.{nat_cmp-IsAntisymmetric, total-empty, total-insert, total-remove, total-le_len, total-any, part-le_total, nat_cmp, nat_cmp_total, get, insert, remove, empty, values, len, len-empty, len-insert, len-remove, total}
+use Rattle.open_desc.specs.Prelude.{Opens, is_end, count_of, end_weight, Counts, AreCounted, Kind, Opened}
 
 -- 1 for an end of the pipe
 abbrev weight : ℕ → Bool → Kind → ℕ

@@ -3,18 +3,10 @@ use Rattle.std.proofs.Common.{◌≡◌, ◌≢◌, ℕ, ◌+◌, ◌-◌, ◌<�
 use Rattle.std.specs.Bool.{if◌then◌else◌}
 use Rattle.std.specs.Option.{option_map, option_map_or, ok_or}
 use Rattle.std.specs.List.{list_any}
-use Rattle.std.specs.Ordering.{nat_cmp}
-use Rattle.std.specs.FinMap.{get, insert, remove, empty, values, get-empty}
 use Rattle.std.proofs.lemmas.Bool.{false≢true}
 use Rattle.std.proofs.lemmas.Bool.Decides.{nat_tests}
-use Rattle.wx_types.specs.declared.errors.Errno.TheVariants.{Badf, Mfile}
-use Rattle.fd_table.specs.declared.table.Descriptor.{Descriptor}
-use Rattle.fd_table.specs.Table.{Table, lowest_free, after_put, dropped_ids, after_exec}
-use Rattle.finite_maps.proofs.Maps.{nat_cmp_total, nat_cmp-IsAntisymmetric, total-empty, total-insert, total-remove, total-positive, part-le_total, found_where, any_value, remove_absent}
-use Rattle.open_desc.specs.Descriptions.{Descriptions, references_of, after_open, after_share, after_release, is_end, end_left}
-use Rattle.open_desc.specs.Processes.{Processes, names, names_in, pairs_naming, table_of, ids_of, with_table, all_shared, all_released, put_or_released, shared_where, released_displaced, released_closed, Step, New, Open, Dup, Renumber, Close, Fork, Exec, End, after_step, MayCome, after_steps, AllMayCome, no_processes, names_end, some_names_end, CountsAgree, CountsStay}
-use Rattle.open_desc.specs.declared.description.Description.{Description}
-use Rattle.open_desc.specs.declared.description.Opened.{Opened}
+use Rattle.open_desc.specs.Prelude.{Badf, Mfile, Descriptor, Table, lowest_free, after_put, dropped_ids, after_exec, Descriptions, references_of, after_open, after_share, after_release, is_end, end_left, Processes, names, names_in, pairs_naming, table_of, ids_of, with_table, all_shared, all_released, put_or_released, shared_where, released_displaced, released_closed, Step, New, Open, Dup, Renumber, Close, Fork, Exec, End, after_step, MayCome, after_steps, AllMayCome, no_processes, names_end, some_names_end, CountsAgree, CountsStay, Description, Opened}
+use Rattle.finite_maps.proofs.Maps.{nat_cmp_total, nat_cmp-IsAntisymmetric, total-empty, total-insert, total-remove, total-positive, part-le_total, found_where, any_value, remove_absent, nat_cmp, get, insert, remove, empty, values, get-empty}
 use Rattle.std.proofs.lemmas.Option.{none-some}
 use Rattle.std.specs.Cmp.{both_ways}
 use Rattle.open_desc.proofs.ReferenceLemmas.{one, one_same, times, AreReferred, references-open, references-share, references-release, references-all_shared, references-all_released, AreReferred-open, AreReferred-share, AreReferred-release, AreReferred-all_shared, AreReferred-all_released}

@@ -3,16 +3,11 @@ use Rattle.std.proofs.Common.{◌≡◌, ◌≢◌, ℕ, ◌+◌, ◌-◌, ◌<�
 use Rattle.std.specs.Bool.{if◌then◌else◌}
 use Rattle.std.specs.Option.{option_map_or}
 use Rattle.std.specs.List.{sum_by}
-use Rattle.std.specs.FinMap.{get, insert, remove}
 use Rattle.std.proofs.lemmas.Bool.{cases_eq}
 use Rattle.std.proofs.lemmas.Bool.Decides.{nat_tests}
 use Rattle.std.proofs.lemmas.List.Sums.{sum_by-cons}
-use Rattle.finite_maps.proofs.Maps.{nat_cmp_total, nat_cmp-IsAntisymmetric, get-insert_same, get-insert_other, get-remove_same, get-remove_other}
-use Rattle.open_desc.specs.Codes.{Opens}
-use Rattle.open_desc.specs.Descriptions.{Descriptions, references_of, after_open, referred, shared, after_share, is_last, released, after_release, with_opened}
-use Rattle.open_desc.specs.Processes.{all_shared, all_released}
-use Rattle.open_desc.specs.declared.description.Description.{Description}
-use Rattle.open_desc.specs.declared.description.Opened.{Opened}
+use Rattle.finite_maps.proofs.Maps.{nat_cmp_total, nat_cmp-IsAntisymmetric, get-insert_same, get-insert_other, get-remove_same, get-remove_other, get, insert, remove}
+use Rattle.open_desc.specs.Prelude.{Opens, Descriptions, references_of, after_open, referred, shared, after_share, is_last, released, after_release, with_opened, all_shared, all_released, Description, Opened}
 
 -- 1 where two ids are the same
 abbrev pub one : ℕ → ℕ → ℕ

@@ -2,14 +2,13 @@
 use Rattle.std.proofs.Common.{◌≡◌, ℕ, ◌+◌, ◌<◌, ◌≤◌, List, [], ◌∷◌, length, get_or, Option, Some, None, is_some, cond, refl, sym, ap, ◌∙◌, arith, ⊎_elim}
 use Rattle.std.proofs.Math.ListN.{set}
 use Rattle.std.specs.List.{count_by}
-use Rattle.std.specs.FinMap.{insert, remove, len, len-entries}
 use Rattle.std.proofs.lemmas.Bool.{cases_lt}
 use Rattle.std.proofs.lemmas.List.{get_or_past}
 use Rattle.std.proofs.lemmas.List.Sums.{sum_by-cons}
 use Rattle.slab.specs.Slab.{Slab, slab_len, Updates}
 use Rattle.fd_table.specs.Places.{by_place, placed_from}
 use Rattle.fd_table.proofs.PlaceLemmas.{get-by_place, entries-by_place, by_place-put}
-use Rattle.finite_maps.proofs.Maps.{nat_cmp_total, nat_cmp-IsAntisymmetric, is_insert, is_remove}
+use Rattle.finite_maps.proofs.Maps.{nat_cmp_total, nat_cmp-IsAntisymmetric, is_insert, is_remove, insert, remove, len, len-entries}
 
 module _ {X : Type 0} where
   pub by_place-updated : (old new : Slab X) (key : ℕ) (v : X) → Updates old new key (Some v) → by_place new.slots ≡ insert (by_place old.slots) key v

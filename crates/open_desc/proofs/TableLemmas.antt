@@ -3,14 +3,10 @@ use Rattle.std.proofs.Common.{◌≡◌, ◌≢◌, ℕ, zero, suc, ◌+◌, ◌
 use Rattle.std.specs.Bool.{if◌then◌else◌}
 use Rattle.std.specs.Option.{option_map_or, option_and_then, option_to_list}
 use Rattle.std.specs.List.{find, range_with_len, sum_by}
-use Rattle.std.specs.FinMap.{get, insert, remove, values}
 use Rattle.std.proofs.lemmas.List.Sums.{sum_by-cons, sum_by_push}
-use Rattle.fd_table.specs.declared.table.Descriptor.{Descriptor}
-use Rattle.fd_table.specs.Table.{Table, descriptor, lowest_free, after_put, marked_id, marked_below, without_marked_below}
-use Rattle.finite_maps.specs.Maps.{total}
+use Rattle.open_desc.specs.Prelude.{Descriptor, Table, descriptor, lowest_free, after_put, marked_id, marked_below, without_marked_below, names, names_in, ids_of}
 use Rattle.fd_table.proofs.ExecLemmas.{marked_below-zero, marked_below-more, without_marked_below-zero, without_marked_below-marked, without_marked_below-unmarked, get_at}
-use Rattle.finite_maps.proofs.Maps.{nat_cmp_total, nat_cmp-IsAntisymmetric, get-insert_other, total-insert, total-remove}
-use Rattle.open_desc.specs.Processes.{names, names_in, ids_of}
+use Rattle.finite_maps.proofs.Maps.{nat_cmp_total, nat_cmp-IsAntisymmetric, get-insert_other, total-insert, total-remove, get, insert, remove, values, total}
 use Rattle.open_desc.proofs.ReferenceLemmas.{one, times}
 
 -- what an entry adds to the count

@@ -10,3 +10,12 @@ pub use Rattle.open_desc.specs.declared.description.Description.{Description}
 pub use Rattle.open_desc.specs.declared.description.Kind.{Kind}
 pub use Rattle.open_desc.specs.declared.description.Kind.TheVariants.{Dir, Error, File, Input, Output, PipeRead, PipeWrite}
 pub use Rattle.open_desc.specs.declared.description.Opened.{Opened}
+pub use Rattle.fd_table.specs.Places.{placed_from}
+unfoldable pub use Rattle.fd_table.specs.Places.{by_place}
+pub use Rattle.fd_table.specs.Table.{Table, after_exec, after_put, descriptor, dropped_ids, marked_id}
+unfoldable pub use Rattle.fd_table.specs.Table.{lowest_free, marked_below, without_marked_below}
+pub use Rattle.fd_table.specs.declared.table.Descriptor.{Descriptor}
+pub use Rattle.file_tree.specs.FileTree.{FileTree}
+pub use Rattle.file_tree.specs.Files.{count_read, filled, read_at, write_at}
+pub use Rattle.wx_types.specs.declared.errors.Errno.{Errno}
+pub use Rattle.wx_types.specs.declared.errors.Errno.TheVariants.{Badf, Mfile}

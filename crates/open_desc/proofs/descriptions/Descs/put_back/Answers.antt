@@ -1,9 +1,7 @@
 use Rattle.std.proofs.Common.{ap, sym, subst, ◌∙◌}
 use Rattle.std.specs.FinMap.{get}
 use Rattle.fd_table.proofs.PlaceLemmas.{get-by_place}
-use Rattle.open_desc.specs.Codes.{Opens}
-use Rattle.open_desc.specs.Descriptions.{with_opened}
-use Rattle.open_desc.specs.Ends.{AreCounted}
+use Rattle.open_desc.specs.Prelude.{Opens, with_opened, AreCounted}
 use Rattle.open_desc.proofs.CountLemmas.{AreCounted-changed, entry_of}
 use Rattle.std.proofs.lemmas.Option.{none-some}
 use Rattle.open_desc.proofs.SlabLemmas.{by_place-written}

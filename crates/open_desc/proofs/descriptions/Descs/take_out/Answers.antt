@@ -1,9 +1,7 @@
 use Rattle.std.proofs.Common.{true, false, ap, sym, subst, ◌∙◌}
 use Rattle.std.specs.FinMap.{get, remove}
 use Rattle.fd_table.proofs.PlaceLemmas.{get-by_place}
-use Rattle.open_desc.specs.Codes.{Opens}
-use Rattle.open_desc.specs.Descriptions.{Descriptions}
-use Rattle.open_desc.specs.Ends.{AreCounted}
+use Rattle.open_desc.specs.Prelude.{Opens, Descriptions, AreCounted}
 use Rattle.open_desc.proofs.CountLemmas.{AreCounted-closed, counted_end}
 use Rattle.std.proofs.lemmas.Option.{none-some}
 use Rattle.finite_maps.proofs.Options.{some_from}
