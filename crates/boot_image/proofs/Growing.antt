@@ -1,39 +1,20 @@
 -- What an entry gives a tree: a new file or directory, where its path leads to a spot for one.
 use Rattle.std.proofs.Common.{◌≡◌, ℕ, ◌+◌, ◌<◌, ◌≤◌, true, false, List, [], ◌∷◌, ◌++◌, length, take, drop, nat_cmp, Option, Some, None, is_none, ok_or, Ok, option_map, option_and_then, refl, sym, ap, subst, ◌∙◌, ◌⊎◌, inl, inr, arith, take_all, Bool, cond, not, eqb, ltb, leb, le-ltb, ltb-false, leb-false, ne_eqb, max, is_some, Result, Err, unwrap_or, append-nil}
-use Rattle.std.specs.Cmp.{nat_cmp_total}
-use Rattle.std.specs.Cmp.Lexicographic.{slice_cmp}
-use Rattle.std.specs.FinMap.{get, insert, empty, len, get-empty, nat_cmp-IsAntisymmetric}
 use Rattle.std.specs.List.{AllByRecursion, last_or}
 use Rattle.std.specs.Option.{option_map_or}
 use Rattle.std.specs.Result.{result_unwrap_or, result_ok}
 use Rattle.std.proofs.lemmas.Bool.{false≢true, or_from, or_parts, lt-leb}
 use Rattle.std.proofs.Math.ListN.{drop_of_length-le}
-use Rattle.wx_types.specs.declared.errors.Errno.TheVariants.{Noent, Exist, Nospc, Fbig}
-use Rattle.wx_types.specs.declared.errors.Errno.{Errno}
-use Rattle.tree_nodes.specs.Nodes.{bytes_of_all, size_of, kind_of, size_found, lacks_name, lacks_name_at, naming, with_change, parent_of_node, is_linked, is_linked_node, written}
+use Rattle.boot_image.specs.Prelude.{Noent, Exist, Nospc, Fbig, Errno, bytes_of_all, size_of, kind_of, size_found, lacks_name, lacks_name_at, naming, with_change, parent_of_node, is_linked, is_linked_node, written, Node, NameMap, is_dot_dot, FileTree, root, only_root, new_node, named, parent_of, most_nodes, last_number, NodeMap, most_bytes, changed, writing, with_nodes, added, is_dir, made_at, is_full, Leads, target, target_of, target_in, node_under, is_dir_node, IsName, IsTree, stat_of, Stat, write_at, bytes_at, fitted, room_for, Place, Content, Directory, File, content_of, content_of_kind, content_under, joined, plain_parts, made, with_entry}
 use Rattle.tree_nodes.specs.declared.node.Content.{Content as NodeContent}
 use Rattle.tree_nodes.specs.declared.node.Content.TheVariants.{File as FileNode, Dir}
-use Rattle.tree_nodes.specs.declared.node.Node.{Node}
-use Rattle.finite_maps.proofs.Maps.{get-insert_same, get-insert_other, len-insert_new, insert-insert}
+use Rattle.finite_maps.proofs.Maps.{get-insert_same, get-insert_other, len-insert_new, insert-insert, nat_cmp_total, slice_cmp, get, insert, empty, len, get-empty, nat_cmp-IsAntisymmetric}
 use Rattle.finite_maps.proofs.Options.{none_never, chained_from}
 use Rattle.tree_nodes.proofs.NodeLemmas.{changed_there, bytes_put}
-use Rattle.tree_nodes.specs.Names.{NameMap}
-use Rattle.path_walk.specs.Paths.{is_dot_dot}
-use Rattle.file_tree.specs.FileTree.{FileTree, root, only_root, new_node, named, parent_of, most_nodes, last_number, NodeMap, most_bytes, changed, writing, with_nodes}
-use Rattle.file_tree.specs.Names.{added, is_dir, made_at, is_full}
 use Rattle.file_tree.specs.Walk.{and_then, bytes_of, names_at, names_of, place_itself, step, walk_on, last_name}
-use Rattle.file_tree.specs.Trees.{Leads, target, target_of, target_in, node_under, is_dir_node, IsName, IsTree}
-use Rattle.file_tree.specs.Listings.{stat_of}
-use Rattle.file_tree.specs.declared.listing.Stat.{Stat}
 use Rattle.file_tree.proofs.Links.{same_number, IsPlace}
 use Rattle.file_tree.proofs.TreeLemmas.{NameSet, leads_is, leads_to, named_set, tree_with_new, there, linked_up}
-use Rattle.file_tree.specs.Files.{write_at, bytes_at, fitted, room_for}
-use Rattle.file_tree.specs.declared.place.Place.{Place}
 use Rattle.file_tree.proofs.Ends.{dir_found}
-use Rattle.boot_image.specs.Entries.{Content, Directory, File}
-use Rattle.boot_image.specs.Written.{content_of, content_of_kind}
-use Rattle.boot_image.specs.Same.{content_under}
-use Rattle.boot_image.specs.Image.{joined, plain_parts, made, with_entry}
 use Rattle.boot_image.proofs.Under.{under_linked, under_once, under_new, under_old, Ending, none, some, ending}
 use Rattle.boot_image.proofs.PlainPaths.{Plain, plain_of, parts_for, plain_joined}
 

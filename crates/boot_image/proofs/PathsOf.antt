@@ -6,28 +6,15 @@ use Rattle.std.specs.Result.{result_unwrap_or}
 use Rattle.std.specs.List.{flat_map, AllByRecursion}
 use Rattle.std.proofs.lemmas.List.Concat.{flat_map-cons}
 use Rattle.std.specs.BTreeMap.{is_at}
-use Rattle.std.specs.Cmp.Lexicographic.{slice_cmp, nat_list_cmp_total}
-use Rattle.std.specs.FinMap.{insert, entries, from_entries, slice_cmp-IsAntisymmetric, nat_cmp-IsAntisymmetric, find, get, empty, get-entries, get-empty}
 use Rattle.std.specs.List.Sorted.{IsStrictlySortedBy}
-use Rattle.std.specs.Map.{lookup, keys_of}
-use Rattle.std.specs.Cmp.{tied_itself}
 use Rattle.std.specs.Option.{ok_or}
-use Rattle.wx_types.specs.declared.errors.Errno.{Errno}
-use Rattle.wx_types.specs.declared.errors.Errno.TheVariants.{Noent}
-use Rattle.tree_nodes.specs.Names.{NameMap}
-use Rattle.finite_maps.proofs.Maps.{from_entries-insert, entries_of_sorted, get-insert_same, get-insert_other, entries_rise, nat_list_cmp-IsAntisymmetric}
+use Rattle.boot_image.specs.Prelude.{Errno, Noent, NameMap, list, listed, FileTree, root, Listed, and_then, names_at, names_of, target, target_of, target_in, node_under, below, with_paths, path_in, names_in, paths_of, joined}
+use Rattle.finite_maps.proofs.Maps.{from_entries-insert, entries_of_sorted, get-insert_same, get-insert_other, entries_rise, nat_list_cmp-IsAntisymmetric, slice_cmp, nat_list_cmp_total, insert, entries, from_entries, find, get, empty, get-entries, get-empty, lookup, keys_of, tied_itself}
 use Rattle.finite_maps.proofs.Options.{chained_from}
 use Rattle.std.proofs.lemmas.Option.{same_Some}
-use Rattle.file_tree.specs.Listings.{list, listed}
-use Rattle.file_tree.specs.FileTree.{FileTree, root}
-use Rattle.file_tree.specs.declared.listing.Listed.{Listed}
-use Rattle.file_tree.specs.Walk.{and_then, names_at, names_of}
-use Rattle.file_tree.specs.Trees.{target, target_of, target_in, node_under}
 use Rattle.file_tree.proofs.Links.{same_name}
 use Rattle.file_tree.proofs.TreeLemmas.{leads_to}
 use Rattle.file_tree.proofs.Ends.{dir_found}
-use Rattle.boot_image.specs.Written.{below, with_paths, path_in, names_in, paths_of}
-use Rattle.boot_image.specs.Image.{joined}
 use Rattle.boot_image.proofs.PlainPaths.{joined_then}
 
 with_paths-append : (paths : NameMap) (a b : List (List ℕ × ℕ)) → with_paths paths (a ++ b) ≡ with_paths (with_paths paths a) b

@@ -5,16 +5,8 @@ use Rattle.std.proofs.lemmas.Bool.{eqb-true, eqb-false}
 use Rattle.std.proofs.lemmas.List.{nil_from_length}
 use Rattle.std.specs.Option.{option_and_then}
 use Rattle.byte_cursor.specs.declared.leb.CursorFault.{CursorFault}
-use Rattle.file_tree.specs.FileTree.{FileTree, only_root}
-use Rattle.boot_image.specs.Entries.{Entry, Content, Directory, File, magic, bytes_of, entry_bytes, Fits}
-use Rattle.boot_image.specs.NextItem.{Next, Last, One, Other, next_at}
-use Rattle.boot_image.specs.declared.read.Step.{Step}
+use Rattle.boot_image.specs.Prelude.{FileTree, only_root, Entry, Content, Directory, File, magic, bytes_of, entry_bytes, Fits, Next, Last, One, Other, next_at, Step, ImageFault, NotImage, Memory, Means, Image, Remains, with_entry, with_entries, IsBytes, Goes, Makes}
 use Rattle.boot_image.specs.declared.read.Step.TheVariants.{Entry as EntryStep, Last as LastStep}
-use Rattle.boot_image.specs.declared.fault.ImageFault.{ImageFault}
-use Rattle.boot_image.specs.declared.fault.ImageFault.TheVariants.{NotImage, Memory}
-use Rattle.boot_image.specs.Answers.{Means}
-use Rattle.boot_image.specs.Image.{Image, Remains, with_entry, with_entries}
-use Rattle.boot_image.specs.Steps.{IsBytes, Goes, Makes}
 use Rattle.boot_image.proofs.Items.{IsBytes-behind, Stands, next_takes, next_again, first_of, behind_first}
 use Rattle.finite_maps.proofs.Options.{chained_from}
 

@@ -1,33 +1,19 @@
 -- The image that is written of a tree is read as a tree with the same paths, kinds and contents, just where no path is too long.
 use Rattle.std.proofs.Common.{◌≡◌, ℕ, ◌+◌, ◌≤◌, List, [], ◌∷◌, length, Some, refl, sym, ap, ◌∙◌, inl, inr, arith, append_assoc, ◌*◌, ◌<◌, ◌++◌, map, Option, None, Less, nat_cmp, option_map, option_and_then, subst, ◌⊎◌, length-append, append-nil, Result, Ok, Err, MatchResult}
-use Rattle.std.specs.Cmp.{nat_cmp_total, tied_itself}
-use Rattle.std.specs.FinMap.{get, remove, len, nat_cmp-IsAntisymmetric, empty, entries, get-empty, len-empty, len-entries}
-use Rattle.std.specs.Cmp.Lexicographic.{slice_cmp, nat_list_cmp_total}
 use Rattle.std.specs.List.{AllByRecursion}
 use Rattle.std.specs.List.Sorted.{IsStrictlySortedBy}
-use Rattle.std.specs.Map.{keys_of}
 use Rattle.std.specs.Ordering.{ordering_then, ordering_reverse}
 use Rattle.std.proofs.lemmas.Bool.{false≢true}
 use Rattle.std.proofs.lemmas.List.{nil_from_length, length-map}
 use Rattle.tree_nodes.specs.Nodes.{NodeMap, bytes_of_all, size_found, size_of, sizes}
-use Rattle.tree_nodes.specs.declared.node.Node.{Node}
-use Rattle.finite_maps.proofs.Maps.{get-remove_other, len-remove_there, len-insert_new, entries_rise}
+use Rattle.boot_image.specs.Prelude.{Node, NameMap, FileTree, root, new_node, only_root, most_nodes, most_bytes, last_number, target, target_of, target_in, node_under, IsName, IsTree, Content, Directory, Fits, FitsContent, Entry, joined, with_entry, with_entries, Image, content_of, paths_of, entry_of, entries_of, image_of, content_under, SameContents, ShortPaths, ReadsBack, Means, ImageFault, NotImage, Memory}
+use Rattle.finite_maps.proofs.Maps.{get-remove_other, len-remove_there, len-insert_new, entries_rise, nat_cmp_total, tied_itself, get, remove, len, nat_cmp-IsAntisymmetric, empty, entries, get-empty, len-empty, len-entries, slice_cmp, nat_list_cmp_total, keys_of}
 use Rattle.finite_maps.proofs.Options.{chained_from}
 use Rattle.std.proofs.lemmas.Option.{same_Some}
 use Rattle.tree_nodes.proofs.NodeLemmas.{bytes_taken, bytes_put}
-use Rattle.tree_nodes.specs.Names.{NameMap}
 use Rattle.tree_nodes.specs.declared.node.Content.{Content as NodeContent}
 use Rattle.tree_nodes.specs.declared.node.Content.TheVariants.{File as FileNode, Dir}
-use Rattle.file_tree.specs.FileTree.{FileTree, root, new_node, only_root, most_nodes, most_bytes, last_number}
-use Rattle.file_tree.specs.Trees.{target, target_of, target_in, node_under, IsName, IsTree}
 use Rattle.file_tree.proofs.TreeLemmas.{there, root_tree}
-use Rattle.boot_image.specs.Entries.{Content, Directory, Fits, FitsContent, Entry}
-use Rattle.boot_image.specs.Image.{joined, with_entry, with_entries, Image}
-use Rattle.boot_image.specs.Written.{content_of, paths_of, entry_of, entries_of, image_of}
-use Rattle.boot_image.specs.Same.{content_under, SameContents, ShortPaths, ReadsBack}
-use Rattle.boot_image.specs.Answers.{Means}
-use Rattle.boot_image.specs.declared.fault.ImageFault.{ImageFault}
-use Rattle.boot_image.specs.declared.fault.ImageFault.TheVariants.{NotImage, Memory}
 use Rattle.boot_image.proofs.PathsOf.{Among, map_among, member_above, Path, path_leads, leads_path}
 use Rattle.boot_image.proofs.Growing.{content_found, content_kind, content_is, size_is, root_content, root_alone, leads_dir, last_good, Spot, Step, grown, grows, entry_made, entry_led}
 use Rattle.boot_image.proofs.PlainPaths.{joined_then, joined_once}

@@ -1,8 +1,7 @@
 -- The nodes that names lead to.
-use Rattle.std.proofs.Common.{◌≡◌, ℕ, zero, suc, ◌+◌, ◌≤◌, List, [], ◌∷◌, ◌++◌, length, Option, Some, None, option_and_then, refl, sym, ap, ◌∙◌, ◌⊎◌, inl, inr, arith, length-append}
+use Rattle.std.proofs.Common.{◌≡◌, ℕ, zero, suc, ◌+◌, ◌≤◌, List, [], ◌∷◌, ◌++◌, length, Some, None, option_and_then, refl, sym, ap, ◌∙◌, ◌⊎◌, inl, inr, arith, length-append}
 use Rattle.std.specs.List.{AllByRecursion}
-use Rattle.file_tree.specs.FileTree.{NodeMap, root, parent_of}
-use Rattle.file_tree.specs.Trees.{target, node_under, IsName, IsTree}
+use Rattle.boot_image.specs.Prelude.{NodeMap, root, parent_of, target, node_under, IsName, IsTree}
 use Rattle.finite_maps.proofs.Options.{chained_from, none_never, same_found}
 use Rattle.std.proofs.lemmas.Option.{same_Some}
 use Rattle.file_tree.proofs.Links.{same_place, IsPlace}

@@ -5,3 +5,4 @@ pub mod Answers
 pub mod Steps
 pub mod Written
 pub mod Same
+pub mod Prelude
