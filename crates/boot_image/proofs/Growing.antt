@@ -86,7 +86,7 @@ pub record Spot (tree : FileTree) (front : List (List ℕ)) (last : List ℕ) : 
   pub number : tree.next ≤ last_number
 
 -- a tree with one path more
-pub record Step (tree after : FileTree) (names : List (List ℕ)) (content : Content) : Type 0 where
+pub record Growth (tree after : FileTree) (names : List (List ℕ)) (content : Content) : Type 0 where
   pub is : IsTree after.nodes after.next
   pub at : content_under after names ≡ Some content
   pub others : (ns : List (List ℕ)) → (ns ≡ names) ⊎ (content_under after ns ≡ content_under tree ns)
@@ -160,7 +160,7 @@ module _ (tree : FileTree) (ok : IsTree tree.nodes tree.next) (front : List (Lis
             let u = under_linked tree.nodes tree.next ok root root n ns ok.links.top e in
             ap Some (old_content n (λ is. none_never (parent_of tree.nodes tree.next) u.0 (ap parent_of_node fresh) (ap (parent_of tree.nodes) (sym is) ∙ u.1)))
 
-    pub grows : Step tree (grown tree spot.dir last content) (front ++ last ∷ []) content
+    pub grows : Growth tree (grown tree spot.dir last content) (front ++ last ∷ []) content
     grows =
         let free = leads_is tree.nodes spot.dir last None spot.leads in
         let at : target (grown tree spot.dir last content).nodes spot.dir last ≡ Some tree.next = leads_same spot.dir last ∙ mid.at in

@@ -15,7 +15,7 @@ use Rattle.tree_nodes.specs.declared.node.Content.{Content as NodeContent}
 use Rattle.tree_nodes.specs.declared.node.Content.TheVariants.{File as FileNode, Dir}
 use Rattle.file_tree.proofs.TreeLemmas.{there, root_tree}
 use Rattle.boot_image.proofs.PathsOf.{Among, map_among, member_above, Path, path_leads, leads_path}
-use Rattle.boot_image.proofs.Growing.{content_found, content_kind, content_is, size_is, root_content, root_alone, leads_dir, last_good, Spot, Step, grown, grows, entry_made, entry_led}
+use Rattle.boot_image.proofs.Growing.{content_found, content_kind, content_is, size_is, root_content, root_alone, leads_dir, last_good, Spot, Growth, grown, grows, entry_made, entry_led}
 use Rattle.boot_image.proofs.PlainPaths.{joined_then, joined_once}
 use Rattle.boot_image.proofs.Under.{none, some, ending, under_last, under_then, under_good, under_once, under_linked}
 use Rattle.boot_image.proofs.Items.{one_list}
@@ -165,7 +165,7 @@ module _ (tree : FileTree) (ok : IsTree tree.nodes tree.next) (within : bytes_of
     good : AllByRecursion IsName (front ++ last ∷ [])
     good = all_good x.1 (front ++ last ∷ []) leads
 
-    step : Step now (grown now spot.dir last (content_of tree x.1)) (front ++ last ∷ []) (content_of tree x.1)
+    step : Growth now (grown now spot.dir last (content_of tree x.1)) (front ++ last ∷ []) (content_of tree x.1)
     step = grows now left.is front last spot (last_good front last good) (content_of tree x.1)
 
     gives : with_entry now (entry_of tree x) ≡ Some (grown now spot.dir last (content_of tree x.1))

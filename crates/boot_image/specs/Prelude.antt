@@ -6,12 +6,12 @@ unfoldable pub use Rattle.boot_image.specs.Image.{plain_parts, with_entries, wit
 pub use Rattle.boot_image.specs.NextItem.{Last, Next, One, Other, Reads, seen}
 unfoldable pub use Rattle.boot_image.specs.NextItem.{directory_at, file_at, next_at, sized_at}
 pub use Rattle.boot_image.specs.Same.{ReadsBack, SameContents, ShortPaths, content_under}
-pub use Rattle.boot_image.specs.Steps.{Goes, IsBytes, Makes}
+pub use Rattle.boot_image.specs.Progress.{Goes, IsBytes, Makes}
 pub use Rattle.boot_image.specs.Written.{content_of_kind, entry_of, first_bytes, names_in, path_in}
 unfoldable pub use Rattle.boot_image.specs.Written.{below, content_of, entries_of, image_of, paths_of, with_paths}
 pub use Rattle.boot_image.specs.declared.fault.ImageFault.{ImageFault}
 pub use Rattle.boot_image.specs.declared.fault.ImageFault.TheVariants.{Memory, NotImage}
-pub use Rattle.boot_image.specs.declared.read.Step.{Step}
+pub use Rattle.boot_image.specs.declared.read.Progress.{Progress}
 pub use Rattle.file_tree.specs.FileTree.{FileTree, NodeMap, changed, last_number, most_bytes, most_nodes, named, new_node, only_root, parent_of, root, with_nodes, writing}
 pub use Rattle.file_tree.specs.Files.{bytes_at, fitted, room_for, write_at}
 pub use Rattle.file_tree.specs.Listings.{list, listed, stat_of}

@@ -1,12 +1,11 @@
 -- What a map of places has at a number, and after one place was written.
-use Rattle.std.proofs.Common.{◌≡◌, ◌≢◌, ℕ, suc, zero, ◌+◌, ◌<◌, Bool, true, false, cond, ◌&&◌, List, [], ◌∷◌, length, get_or, Option, Some, None, ⊎_elim, refl, sym, ap, ◌∙◌, subst, arith, T}
+use Rattle.std.proofs.Common.{◌≡◌, ◌≢◌, ℕ, suc, zero, ◌+◌, ◌<◌, Bool, true, false, ◌&&◌, List, [], ◌∷◌, length, get_or, Option, Some, None, refl, sym, ◌∙◌, subst, arith, T}
 use Rattle.std.proofs.Math.ListN.{set}
 use Rattle.std.specs.Ordering.{nat_cmp, eq_by_cmp, is_lt}
 use Rattle.std.specs.Cmp.{nat_cmp_total, unsigned_tied}
 use Rattle.std.specs.FinMap.{get-from_sorted, entries-from_sorted}
-use Rattle.finite_maps.proofs.Maps.{FinMap, empty, get, insert, remove, entries, find, is_sorted, get-empty, same_map, nat_cmp-IsAntisymmetric, is_insert, is_remove}
+use Rattle.finite_maps.proofs.Maps.{empty, get, insert, remove, entries, find, is_sorted, get-empty, same_map, nat_cmp-IsAntisymmetric, is_insert, is_remove}
 use Rattle.std.specs.FinMap.Entries.{below_all}
-use Rattle.std.proofs.lemmas.Bool.{cases_eq}
 use Rattle.std.proofs.lemmas.List.{get_or-set_same, get_or-set_other}
 use Rattle.std.proofs.lemmas.Bool.Decides.{nat_tests}
 use Rattle.fd_table.specs.Places.{placed_from, by_place}

@@ -22,9 +22,9 @@ same_place dir name d n =
     ]
 
 -- so many steps up lead from one node to another
-abbrev pub Steps : (ℕ → Option ℕ) → ℕ → ℕ → ℕ → Type 0
-Steps parent zero from to = from ≡ to
-Steps parent (suc steps) from to = (dir : ℕ) × (parent from ≡ Some dir) × Steps parent steps dir to
+abbrev pub Ascends : (ℕ → Option ℕ) → ℕ → ℕ → ℕ → Type 0
+Ascends parent zero from to = from ≡ to
+Ascends parent (suc steps) from to = (dir : ℕ) × (parent from ≡ Some dir) × Ascends parent steps dir to
 
 pub climbs_once : (p : ℕ → Option ℕ) (a b n : ℕ) → Climbs p a n → Climbs p b n → a ≡ b
 climbs_once p zero zero n x y = refl
@@ -54,7 +54,7 @@ module _ (p : ℕ → Option ℕ) (t : ℕ → List ℕ → Option ℕ) (links :
       at None e = refl
       at (Some n) e = let named = links.named k n name e in let c = links.climbs n k named.above in absurd (up c.0 n c.1 named.below named.above)
 
-  pub root_stays : (number j n : ℕ) → n ≡ root → Steps p j n number → number ≡ root
+  pub root_stays : (number j n : ℕ) → n ≡ root → Ascends p j n number → number ≡ root
   root_stays number zero n e h = sym h ∙ e
   root_stays number (suc j) n e h = root_stays number j h.0 (same_found (p n) h.0 root h.1 (ap p e ∙ links.top)) h.2
 
@@ -177,7 +177,7 @@ module _ (p : ℕ → Option ℕ) (t : ℕ → List ℕ → Option ℕ) (links :
 
   -- a node that moves to a new name, in a directory that isn't below it
   module _ (number dir new_dir up : ℕ) (name new_name : List ℕ) (at : t dir name ≡ Some number) (free : t new_dir new_name ≡ None) (linked : p new_dir ≡ Some up)
-      (good : IsName new_name) (apart : (j : ℕ) → Steps p j new_dir number → ⊥)
+      (good : IsName new_name) (apart : (j : ℕ) → Ascends p j new_dir number → ⊥)
       (q : ℕ → Option ℕ) (u : ℕ → List ℕ → Option ℕ) (q_new : q number ≡ Some new_dir) (q_old : (n : ℕ) → (n ≡ number → ⊥) → q n ≡ p n)
       (u_new : u new_dir new_name ≡ Some number) (u_gone : u dir name ≡ None)
       (u_old : (d : ℕ) (n : List ℕ) → (IsPlace dir name d n → ⊥) → (IsPlace new_dir new_name d n → ⊥) → u d n ≡ t d n) where
@@ -198,7 +198,7 @@ module _ (p : ℕ → Option ℕ) (t : ℕ → List ℕ → Option ℕ) (links :
     had_moved : (d n : ℕ) (m : List ℕ) → u d m ≡ Some n → (IsPlace new_dir new_name d m → ⊥) → t d m ≡ Some n
     had_moved d n m e other = sym (u_old d m (not_old d n m e) other) ∙ e
 
-    avoid : (k n : ℕ) → Climbs p k n → ((j : ℕ) → Steps p j n number → ⊥) → Climbs q k n
+    avoid : (k n : ℕ) → Climbs p k n → ((j : ℕ) → Ascends p j n number → ⊥) → Climbs q k n
     avoid zero n h never = h
     avoid (suc k) n h never = (h.0, h.1, q_old n (never zero) ∙ h.2, avoid k h.1 h.3 (λ j s. never (suc j) (h.1, h.2, s)))
 

@@ -1,11 +1,10 @@
 -- The counts of open ends after a description was opened, changed or closed.
-use Rattle.std.proofs.Common.{◌≡◌, ℕ, ◌+◌, ◌-◌, ◌<◌, ◌≤◌, Bool, true, false, cond, [], Option, Some, None, is_some, IsSome, IsSomeAnd, Result, Ok, Err, is_err, OnOk, ltb, refl, sym, ap, ◌∙◌, arith}
+use Rattle.std.proofs.Common.{◌≡◌, ℕ, ◌+◌, ◌-◌, ◌<◌, ◌≤◌, Bool, true, false, cond, [], Option, Some, None, is_some, IsSomeAnd, Result, Ok, Err, is_err, OnOk, ltb, refl, sym, ap, ◌∙◌, arith}
 use Rattle.std.specs.Bool.{if◌then◌else◌}
 use Rattle.std.specs.Option.{option_map_or}
 use Rattle.std.specs.BTreeMap.{BTreeMap}
 use Rattle.std.specs.List.{list_any}
 use Rattle.std.proofs.lemmas.Grind.{common_steps}
-use Rattle.std.proofs.lemmas.Bool.{false≢true}
 use Rattle.finite_maps.proofs.Maps.{nat_cmp-IsAntisymmetric, total-empty, total-insert, total-remove, total-le_len, total-any, part-le_total, nat_cmp, nat_cmp_total, get, insert, remove, empty, values, len, len-empty, len-insert, len-remove, total}
 use Rattle.open_desc.specs.Prelude.{Opens, is_end, count_of, end_weight, Counts, AreCounted, Kind, Opened}
 

@@ -1,15 +1,15 @@
 -- After each step the references of a description are the descriptors that name it.
-use Rattle.std.proofs.Common.{◌≡◌, ◌≢◌, ℕ, ◌+◌, ◌-◌, ◌<◌, ◌≤◌, ◌==◌, Bool, true, false, List, [], ◌∷◌, Option, Some, None, IsSome, unwrap_or, Ok, Err, refl, sym, ap, ◌∙◌, arith, nat_lt}
+use Rattle.std.proofs.Common.{◌≡◌, ◌≢◌, ℕ, ◌+◌, ◌<◌, ◌≤◌, ◌==◌, Bool, true, false, List, [], ◌∷◌, Option, Some, None, IsSome, unwrap_or, Ok, Err, refl, sym, ap, ◌∙◌, arith, nat_lt}
 use Rattle.std.specs.Bool.{if◌then◌else◌}
 use Rattle.std.specs.Option.{option_map, option_map_or, ok_or}
 use Rattle.std.specs.List.{list_any}
 use Rattle.std.proofs.lemmas.Bool.{false≢true}
 use Rattle.std.proofs.lemmas.Bool.Decides.{nat_tests}
-use Rattle.open_desc.specs.Prelude.{Badf, Mfile, Descriptor, Table, lowest_free, after_put, dropped_ids, after_exec, Descriptions, references_of, after_open, after_share, after_release, is_end, end_left, Processes, names, names_in, pairs_naming, table_of, ids_of, with_table, all_shared, all_released, put_or_released, shared_where, released_displaced, released_closed, Step, New, Open, Dup, Renumber, Close, Fork, Exec, End, after_step, MayCome, after_steps, AllMayCome, no_processes, names_end, some_names_end, CountsAgree, CountsStay, Description, Opened}
+use Rattle.open_desc.specs.Prelude.{Badf, Mfile, Descriptor, Table, lowest_free, after_put, dropped_ids, after_exec, Descriptions, references_of, after_open, after_share, after_release, is_end, end_left, Processes, names, names_in, pairs_naming, table_of, ids_of, with_table, all_shared, all_released, put_or_released, shared_where, released_displaced, released_closed, Operation, New, Open, Dup, Renumber, Close, Fork, Exec, End, after_operation, MayCome, after_operations, AllMayCome, no_processes, names_end, some_names_end, CountsAgree, CountsStay, Description, Opened}
 use Rattle.finite_maps.proofs.Maps.{nat_cmp_total, nat_cmp-IsAntisymmetric, total-empty, total-insert, total-remove, total-positive, part-le_total, found_where, any_value, remove_absent, nat_cmp, get, insert, remove, empty, values, get-empty}
 use Rattle.std.proofs.lemmas.Option.{none-some}
 use Rattle.std.specs.Cmp.{both_ways}
-use Rattle.open_desc.proofs.ReferenceLemmas.{one, one_same, times, AreReferred, references-open, references-share, references-release, references-all_shared, references-all_released, AreReferred-open, AreReferred-share, AreReferred-release, AreReferred-all_shared, AreReferred-all_released}
+use Rattle.open_desc.proofs.ReferenceLemmas.{one_same, times, AreReferred, references-open, references-share, references-release, references-all_shared, references-all_released, AreReferred-open, AreReferred-share, AreReferred-release, AreReferred-all_shared, AreReferred-all_released}
 use Rattle.open_desc.proofs.TableLemmas.{part, names-put, put-full, names-moved, times-ids, names-exec}
 
 -- what holds before and after each step
@@ -130,7 +130,7 @@ new_step p pid exact new = record {
 }
 
 -- every step keeps the counts
-step_exact : (p : Processes) (step : Step) → AreExact p → MayCome p step → AreExact (after_step p step)
+step_exact : (p : Processes) (step : Operation) → AreExact p → MayCome p step → AreExact (after_operation p step)
 step_exact p (New pid) exact may = new_step p pid exact may
 step_exact p (Open pid id d) exact may = open_step p pid id d exact may.0 may.1 (lowest_free (table_of p pid)) refl
 step_exact p (Dup pid fd) exact may = dup_step p pid fd exact may (get (table_of p pid) fd) refl (lowest_free (table_of p pid)) refl
@@ -174,9 +174,9 @@ ends_agree p exact pipe writing = both_ways _ _ named open_end
         = found_where nat_cmp_total (names_end p.descs pipe writing) process.1 process.3 in
         opened_end descriptor.1.id (get p.descs.opens descriptor.1.id) refl descriptor.3
 
-steps_exact : (p : Processes) (steps : List Step) → AreExact p → AllMayCome p steps → CountsAgree (after_steps p steps)
+steps_exact : (p : Processes) (steps : List Operation) → AreExact p → AllMayCome p steps → CountsAgree (after_operations p steps)
 steps_exact p [] exact may = record { references = exact.references; ends = ends_agree p exact }
-steps_exact p (step ∷ rest) exact may = steps_exact (after_step p step) rest (step_exact p step exact may.0) may.1
+steps_exact p (step ∷ rest) exact may = steps_exact (after_operation p step) rest (step_exact p step exact may.0) may.1
 
 -- from no process and no description on
 pub counts_stay : (next : ℕ) → CountsStay (record { opens = empty; next = next })

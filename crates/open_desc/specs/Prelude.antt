@@ -3,7 +3,7 @@ pub use Rattle.open_desc.specs.Codes.{Opens}
 pub use Rattle.open_desc.specs.Descriptions.{Descriptions, after_open, after_release, after_share, changed, description_of, descriptions_code, end_left, is_end, is_last, references_of, referred, released, released_kind, shared, with_flags, with_opened}
 pub use Rattle.open_desc.specs.Ends.{AreCounted, Counts, count_of, end_weight}
 pub use Rattle.open_desc.specs.Offsets.{after_seek, base_of, offset_of, seek_answer, sought}
-pub use Rattle.open_desc.specs.Processes.{AllMayCome, Close, CountsAgree, CountsStay, Dup, End, Exec, Fork, MayCome, New, Open, Processes, Renumber, Step, after_step, after_steps, all_released, all_shared, ids_of, names, names_end, names_in, no_processes, pairs_naming, put_or_released, released_closed, released_displaced, shared_where, some_names_end, table_of, with_table}
+pub use Rattle.open_desc.specs.Processes.{AllMayCome, Close, CountsAgree, CountsStay, Dup, End, Exec, Fork, MayCome, New, Open, Processes, Renumber, Operation, after_operation, after_operations, all_released, all_shared, ids_of, names, names_end, names_in, no_processes, pairs_naming, put_or_released, released_closed, released_displaced, shared_where, some_names_end, table_of, with_table}
 pub use Rattle.open_desc.specs.Reading.{Reads, held_after, read_file, read_kind, read_of, read_usable, usable}
 pub use Rattle.open_desc.specs.Writing.{Writes, left_by, size_of, start_of, unwritten, write_file, write_kind, write_of, write_usable}
 pub use Rattle.open_desc.specs.declared.description.Description.{Description}
