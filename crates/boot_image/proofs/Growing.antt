@@ -1,39 +1,21 @@
 -- What an entry gives a tree: a new file or directory, where its path leads to a spot for one.
 use Rattle.std.proofs.Common.{◌≡◌, ℕ, ◌+◌, ◌<◌, ◌≤◌, true, false, List, [], ◌∷◌, ◌++◌, length, take, drop, nat_cmp, Option, Some, None, is_none, ok_or, Ok, option_map, option_and_then, refl, sym, ap, subst, ◌∙◌, ◌⊎◌, inl, inr, arith, take_all, Bool, cond, not, eqb, ltb, leb, le-ltb, ltb-false, leb-false, ne_eqb, max, is_some, Result, Err, unwrap_or, append-nil}
-use Rattle.std.specs.Cmp.{nat_cmp_total}
-use Rattle.std.specs.Cmp.Lexicographic.{slice_cmp}
-use Rattle.std.specs.FinMap.{get, insert, empty, len, get-empty, nat_cmp-IsAntisymmetric}
 use Rattle.std.specs.List.{AllByRecursion, last_or}
 use Rattle.std.specs.Option.{option_map_or}
 use Rattle.std.specs.Result.{result_unwrap_or, result_ok}
 use Rattle.std.proofs.lemmas.Bool.{false≢true, or_from, or_parts, lt-leb}
 use Rattle.std.proofs.Math.ListN.{drop_of_length-le}
-use Rattle.wx_types.specs.declared.errors.Errno.TheVariants.{Noent, Exist, Nospc, Fbig}
-use Rattle.wx_types.specs.declared.errors.Errno.{Errno}
-use Rattle.tree_nodes.specs.Nodes.{bytes_of_all, size_of, kind_of, size_found, lacks_name, lacks_name_at, naming, with_change, parent_of_node, is_linked, is_linked_node, written}
+use Rattle.boot_image.specs.Prelude.{Noent, Exist, Nospc, Fbig, Errno, bytes_of_all, size_of, kind_of, size_found, lacks_name, lacks_name_at, naming, with_change, parent_of_node, is_linked, is_linked_node, written, Node, NameMap, is_dot_dot, FileTree, root, only_root, new_node, named, parent_of, most_nodes, last_number, NodeMap, most_bytes, changed, writing, with_nodes, added, is_dir, made_at, is_full, Leads, target, target_of, target_in, node_under, is_dir_node, IsName, IsTree, stat_of, Stat, write_at, bytes_at, fitted, room_for, Place, Content, Directory, File, content_of, content_of_kind, content_under, joined, plain_parts, made, with_entry}
 use Rattle.tree_nodes.specs.declared.node.Content.{Content as NodeContent}
 use Rattle.tree_nodes.specs.declared.node.Content.TheVariants.{File as FileNode, Dir}
-use Rattle.tree_nodes.specs.declared.node.Node.{Node}
-use Rattle.tree_nodes.proofs.MapLemmas.{put_at, put_off, len_new}
-use Rattle.tree_nodes.proofs.NodeLemmas.{changed_there, bytes_put, insert_twice}
-use Rattle.tree_nodes.specs.Names.{NameMap}
-use Rattle.path_walk.specs.Paths.{is_dot_dot}
-use Rattle.file_tree.specs.FileTree.{FileTree, root, only_root, new_node, named, parent_of, most_nodes, last_number, NodeMap, most_bytes, changed, writing, with_nodes}
-use Rattle.file_tree.specs.Names.{added, is_dir, made_at, is_full}
+use Rattle.finite_maps.proofs.Maps.{get-insert_same, get-insert_other, len-insert_new, insert-insert, nat_cmp_total, slice_cmp, get, insert, empty, len, get-empty, nat_cmp-IsAntisymmetric}
+use Rattle.finite_maps.proofs.Options.{none_never, chained_from}
+use Rattle.tree_nodes.proofs.NodeLemmas.{changed_there, bytes_put}
 use Rattle.file_tree.specs.Walk.{and_then, bytes_of, names_at, names_of, place_itself, step, walk_on, last_name}
-use Rattle.file_tree.specs.Trees.{Leads, target, target_of, target_in, node_under, is_dir_node, IsName, IsTree}
-use Rattle.file_tree.specs.Listings.{stat_of}
-use Rattle.file_tree.specs.declared.listing.Stat.{Stat}
-use Rattle.file_tree.proofs.Links.{same_number, none_never, IsPlace}
+use Rattle.file_tree.proofs.Links.{same_number, IsPlace}
 use Rattle.file_tree.proofs.TreeLemmas.{NameSet, leads_is, leads_to, named_set, tree_with_new, there, linked_up}
-use Rattle.file_tree.specs.Files.{write_at, bytes_at, fitted, room_for}
-use Rattle.file_tree.specs.declared.place.Place.{Place}
 use Rattle.file_tree.proofs.Ends.{dir_found}
-use Rattle.boot_image.specs.Entries.{Content, Directory, File}
-use Rattle.boot_image.specs.Written.{content_of, content_of_kind}
-use Rattle.boot_image.specs.Same.{content_under}
-use Rattle.boot_image.specs.Image.{joined, plain_parts, made, with_entry}
-use Rattle.boot_image.proofs.Under.{under_linked, under_once, under_new, under_old, chain, Ending, none, some, ending}
+use Rattle.boot_image.proofs.Under.{under_linked, under_once, under_new, under_old, Ending, none, some, ending}
 use Rattle.boot_image.proofs.PlainPaths.{Plain, plain_of, parts_for, plain_joined}
 
 -- ---- what stands under a node
@@ -104,7 +86,7 @@ pub record Spot (tree : FileTree) (front : List (List ℕ)) (last : List ℕ) : 
   pub number : tree.next ≤ last_number
 
 -- a tree with one path more
-pub record Step (tree after : FileTree) (names : List (List ℕ)) (content : Content) : Type 0 where
+pub record Growth (tree after : FileTree) (names : List (List ℕ)) (content : Content) : Type 0 where
   pub is : IsTree after.nodes after.next
   pub at : content_under after names ≡ Some content
   pub others : (ns : List (List ℕ)) → (ns ≡ names) ⊎ (content_under after ns ≡ content_under tree ns)
@@ -133,11 +115,11 @@ module _ (tree : FileTree) (ok : IsTree tree.nodes tree.next) (front : List (Lis
       omega (arith, bytes_put (named tree.nodes spot.dir last tree.next) tree.next (new_node spot.dir content), ap size_found (mid.unused tree.next fresh), bytes_put tree.nodes spot.dir v, old, new, ap bytes_of_all is_mid)
 
   pub new_at : (content : NodeContent) → get (added tree spot.dir last content).1.nodes tree.next ≡ Some (new_node spot.dir content)
-  new_at content = put_at nat_cmp_total nat_cmp-IsAntisymmetric (named tree.nodes spot.dir last tree.next) tree.next (new_node spot.dir content)
+  new_at content = get-insert_same nat_cmp_total (named tree.nodes spot.dir last tree.next) tree.next (new_node spot.dir content)
 
   module _ (good : IsName last) (content : Content) where
     new_off : (q : ℕ) → (q ≡ tree.next → ⊥) → get (grown tree spot.dir last content).nodes q ≡ get (named tree.nodes spot.dir last tree.next) q
-    new_off = put_off nat_cmp_total nat_cmp-IsAntisymmetric (named tree.nodes spot.dir last tree.next) tree.next (new_node spot.dir (node_content content))
+    new_off = get-insert_other nat_cmp_total nat_cmp-IsAntisymmetric (named tree.nodes spot.dir last tree.next) tree.next (new_node spot.dir (node_content content))
 
     -- a new node has no names
     no_names : (n : List ℕ) → target_in (node_content content) n ≡ None
@@ -157,10 +139,10 @@ module _ (tree : FileTree) (ok : IsTree tree.nodes tree.next) (front : List (Lis
         ∙ elim (same_number q spot.dir) [
           | inl e ↦
               ap (λ x. content_found (get (insert tree.nodes spot.dir (with_change (naming last tree.next) spot.leads.node)) x)) e
-              ∙ ap content_found (put_at nat_cmp_total nat_cmp-IsAntisymmetric tree.nodes spot.dir (with_change (naming last tree.next) spot.leads.node))
+              ∙ ap content_found (get-insert_same nat_cmp_total tree.nodes spot.dir (with_change (naming last tree.next) spot.leads.node))
               ∙ ap (λ c. content_kind (naming last tree.next c)) spot.leads.content
               ∙ sym (ap (λ x. content_found (get tree.nodes x)) e ∙ ap content_found spot.leads.there ∙ ap content_kind spot.leads.content)
-          | inr apart ↦ ap content_found (put_off nat_cmp_total nat_cmp-IsAntisymmetric tree.nodes spot.dir (with_change (naming last tree.next) spot.leads.node) q apart)
+          | inr apart ↦ ap content_found (get-insert_other nat_cmp_total nat_cmp-IsAntisymmetric tree.nodes spot.dir (with_change (naming last tree.next) spot.leads.node) q apart)
         ]
         ∙ sym (content_is tree q)
 
@@ -178,7 +160,7 @@ module _ (tree : FileTree) (ok : IsTree tree.nodes tree.next) (front : List (Lis
             let u = under_linked tree.nodes tree.next ok root root n ns ok.links.top e in
             ap Some (old_content n (λ is. none_never (parent_of tree.nodes tree.next) u.0 (ap parent_of_node fresh) (ap (parent_of tree.nodes) (sym is) ∙ u.1)))
 
-    pub grows : Step tree (grown tree spot.dir last content) (front ++ last ∷ []) content
+    pub grows : Growth tree (grown tree spot.dir last content) (front ++ last ∷ []) content
     grows =
         let free = leads_is tree.nodes spot.dir last None spot.leads in
         let at : target (grown tree spot.dir last content).nodes spot.dir last ≡ Some tree.next = leads_same spot.dir last ∙ mid.at in
@@ -192,7 +174,7 @@ module _ (tree : FileTree) (ok : IsTree tree.nodes tree.next) (front : List (Lis
                 | inl f ↦ inl (f.1 ∙ ap (λ l. l ++ last ∷ []) (under_once tree.nodes tree.next ok f.0 front spot.dir f.2 spot.under))
                 | inr same ↦ inr (same_under ns same)
               ];
-          len = len_new nat_cmp_total nat_cmp-IsAntisymmetric (named tree.nodes spot.dir last tree.next) tree.next (new_node spot.dir (node_content content)) (mid.unused tree.next fresh) ∙ ap (λ n. n + 1) mid.len;
+          len = len-insert_new nat_cmp_total (named tree.nodes spot.dir last tree.next) tree.next (new_node spot.dir (node_content content)) (mid.unused tree.next fresh) ∙ ap (λ n. n + 1) mid.len;
           next = refl;
           bytes = new_bytes (node_content content);
         }
@@ -202,7 +184,7 @@ module _ (tree : FileTree) (ok : IsTree tree.nodes tree.next) (front : List (Lis
 pub root_alone : (names : List (List ℕ)) (content : Content) → content_under only_root names ≡ Some content → names ≡ []
 root_alone [] content e = refl
 root_alone (name ∷ names) content e =
-    let at : get only_root.nodes root ≡ Some (new_node root (Dir empty)) = put_at nat_cmp_total nat_cmp-IsAntisymmetric empty root (new_node root (Dir empty)) in
+    let at : get only_root.nodes root ≡ Some (new_node root (Dir empty)) = get-insert_same nat_cmp_total empty root (new_node root (Dir empty)) in
     let missing : target only_root.nodes root name ≡ None = ap (λ o. target_of o name) at ∙ get-empty (slice_cmp nat_cmp) name in
     absurd (let f = sym (ap (λ o. option_map (content_of only_root) (option_and_then (λ d. node_under only_root.nodes d names) o)) missing) ∙ e in let never : ⊥ = cc in never)
 
@@ -317,7 +299,7 @@ module _ (tree : FileTree) (ok : IsTree tree.nodes tree.next) (front : List (Lis
       let all : written [] 0 (byte ∷ bytes) ≡ byte ∷ bytes = ap (λ l. (byte ∷ bytes) ++ l) (drop_of_length-le [] {i = 0 + length (byte ∷ bytes)} (omega arith)) ∙ append-nil (byte ∷ bytes) in
       let filled : changed start.nodes tree.next (with_change (writing 0 (byte ∷ bytes))) ≡ (grown tree spot.dir last (File (byte ∷ bytes))).nodes =
       changed_there start.nodes tree.next (with_change (writing 0 (byte ∷ bytes))) (new_node spot.dir (FileNode [])) (new_at tree ok front last spot (FileNode []))
-      ∙ insert_twice (named tree.nodes spot.dir last tree.next) tree.next (new_node spot.dir (FileNode [])) (new_node spot.dir (FileNode (written [] 0 (byte ∷ bytes))))
+      ∙ insert-insert nat_cmp_total nat_cmp-IsAntisymmetric (named tree.nodes spot.dir last tree.next) tree.next (new_node spot.dir (FileNode [])) (new_node spot.dir (FileNode (written [] 0 (byte ∷ bytes))))
       ∙ ap (λ (l : List ℕ). (grown tree spot.dir last (File l)).nodes) all in
       ap (λ r. and_then r (λ old. cond (eqb (length (byte ∷ bytes)) 0) (Ok start) (fitted start tree.next (writing 0 (byte ∷ bytes)) (length old) (0 + length (byte ∷ bytes)) (max (length old) (0 + length (byte ∷ bytes)))))) empty_there
       ∙ ap (λ b. cond b (Ok start) (fitted start tree.next (writing 0 (byte ∷ bytes)) (length {A = ℕ} []) (0 + length (byte ∷ bytes)) (max (length {A = ℕ} []) (0 + length (byte ∷ bytes))))) some
@@ -370,7 +352,7 @@ pub record Led (tree : FileTree) (path : List ℕ) (content : Content) (after : 
 pub entry_led : (tree after : FileTree) (path : List ℕ) (content : Content) → IsTree tree.nodes tree.next → with_entry tree (record { path = path; content = content }) ≡ Some after → Led tree path content after
 unfolding with_entry
 entry_led tree after path content ok e =
-    let p = chain (plain_parts path) (λ parts. result_ok (made tree parts content)) after e in
+    let p = chained_from (λ parts. result_ok (made tree parts content)) (plain_parts path) after e in
     let plain = plain_of path p.0 p.1 in
     by plain (ending plain.names)
   where
@@ -407,5 +389,5 @@ entry_led tree after path content ok e =
         let all : AllByRecursion IsName (front ++ last ∷ []) = subst (AllByRecursion IsName) is plain.good in
         let short : length (joined (front ++ last ∷ [])) ≤ 1024 = omega (arith, plain.short, ap length plain.is, ap (λ l. length (joined l)) is) in
         let led = sym (entry_is tree front last all short content) ∙ ap (λ p. with_entry tree (record { path = p; content = content })) (ap joined (sym is) ∙ sym plain.is) ∙ e in
-        let d = chain (node_under tree.nodes root front) (λ d. option_and_then (put tree front last all short content) (last_in tree.nodes last d)) after led in
+        let d = chained_from (λ d. option_and_then (put tree front last all short content) (last_in tree.nodes last d)) (node_under tree.nodes root front) after led in
         found front last all short d.0 d.1 (names_at tree.nodes d.0) refl d.2

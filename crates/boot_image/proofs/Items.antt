@@ -10,9 +10,7 @@ use Rattle.byte_cursor.specs.declared.leb.CursorFault.TheVariants.{End}
 use Rattle.byte_cursor.specs.ReadNumbers.{fixed_at, span_at, and_then}
 use Rattle.byte_cursor.specs.declared.leb.CursorFault.{CursorFault}
 use Rattle.byte_cursor.proofs.Laws.{chosen}
-use Rattle.boot_image.specs.NextItem.{sized_at, Next, Last, One, Other, directory_at, file_at, next_at}
-use Rattle.boot_image.specs.Steps.{IsBytes}
-use Rattle.boot_image.specs.Entries.{Entry, Content, Directory, File, path_bytes, file_bytes, entry_bytes, entries_bytes, Fits, magic, Spells}
+use Rattle.boot_image.specs.Prelude.{sized_at, Next, Last, One, Other, directory_at, file_at, next_at, IsBytes, Entry, Content, Directory, File, path_bytes, file_bytes, entry_bytes, entries_bytes, Fits, magic, Spells}
 
 abbrev done : {A : Type 0} → A → Result A CursorFault
 done x = Ok x

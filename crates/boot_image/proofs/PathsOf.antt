@@ -6,28 +6,16 @@ use Rattle.std.specs.Result.{result_unwrap_or}
 use Rattle.std.specs.List.{flat_map, AllByRecursion}
 use Rattle.std.proofs.lemmas.List.Concat.{flat_map-cons}
 use Rattle.std.specs.BTreeMap.{is_at}
-use Rattle.std.specs.Cmp.Lexicographic.{slice_cmp, nat_list_cmp_total}
-use Rattle.std.specs.FinMap.{insert, entries, from_entries, slice_cmp-IsAntisymmetric, nat_cmp-IsAntisymmetric, find, get, empty, get-entries, get-empty}
 use Rattle.std.specs.List.Sorted.{IsStrictlySortedBy}
-use Rattle.std.specs.Map.{lookup, keys_of}
-use Rattle.std.specs.Cmp.{tied_itself}
 use Rattle.std.specs.Option.{ok_or}
-use Rattle.wx_types.specs.declared.errors.Errno.{Errno}
-use Rattle.wx_types.specs.declared.errors.Errno.TheVariants.{Noent}
-use Rattle.tree_nodes.specs.Names.{NameMap}
-use Rattle.tree_nodes.proofs.MapLemmas.{inserted, entries_of_sorted, put_at, put_off, entries_rise}
-use Rattle.file_tree.specs.Listings.{list, listed}
-use Rattle.file_tree.specs.FileTree.{FileTree, root}
-use Rattle.file_tree.specs.declared.listing.Listed.{Listed}
-use Rattle.file_tree.specs.Walk.{and_then, names_at, names_of}
-use Rattle.file_tree.specs.Trees.{target, target_of, target_in, node_under}
-use Rattle.file_tree.proofs.Links.{some_is, same_name}
+use Rattle.boot_image.specs.Prelude.{Errno, Noent, NameMap, list, listed, FileTree, root, Listed, and_then, names_at, names_of, target, target_of, target_in, node_under, below, with_paths, path_in, names_in, paths_of, joined}
+use Rattle.finite_maps.proofs.Maps.{from_entries-insert, entries_of_sorted, get-insert_same, get-insert_other, entries_rise, nat_list_cmp-IsAntisymmetric, slice_cmp, nat_list_cmp_total, insert, entries, from_entries, find, get, empty, get-entries, get-empty, lookup, keys_of, tied_itself}
+use Rattle.finite_maps.proofs.Options.{chained_from}
+use Rattle.std.proofs.lemmas.Option.{same_Some}
+use Rattle.file_tree.proofs.Links.{same_name}
 use Rattle.file_tree.proofs.TreeLemmas.{leads_to}
 use Rattle.file_tree.proofs.Ends.{dir_found}
-use Rattle.boot_image.specs.Written.{below, with_paths, path_in, names_in, paths_of}
-use Rattle.boot_image.specs.Image.{joined}
 use Rattle.boot_image.proofs.PlainPaths.{joined_then}
-use Rattle.boot_image.proofs.Under.{chain}
 
 with_paths-append : (paths : NameMap) (a b : List (List ℕ × ℕ)) → with_paths paths (a ++ b) ≡ with_paths (with_paths paths a) b
 unfolding with_paths
@@ -68,7 +56,7 @@ module _ (levels : ℕ) (tree : FileTree) (path : List ℕ) (dir : ℕ) (found :
 -- ---- paths as a map's entries
 
 pub path_put : (es fs : List (List ℕ × ℕ)) (path : List ℕ) (node : ℕ) → ((q : List ℕ) → lookup (is_at (slice_cmp nat_cmp q)) fs ≡ cond (is_at (slice_cmp nat_cmp path) q) (Some node) (lookup (is_at (slice_cmp nat_cmp q)) es)) → from_entries {R = slice_cmp nat_cmp} fs ≡ insert (from_entries es) path node
-path_put = inserted nat_list_cmp_total (slice_cmp-IsAntisymmetric nat_cmp-IsAntisymmetric)
+path_put = from_entries-insert nat_list_cmp_total nat_list_cmp-IsAntisymmetric
 
 pub paths_sorted : (es : List (List ℕ × ℕ)) → IsStrictlySortedBy (slice_cmp nat_cmp) (keys_of es) → entries (from_entries {R = slice_cmp nat_cmp} es) ≡ es
 paths_sorted = entries_of_sorted nat_list_cmp_total
@@ -122,14 +110,14 @@ flat_among f b (y ∷ ys) h =
 -- ---- the entries of a map of names
 
 exact : (a b : List ℕ) → slice_cmp nat_cmp a b ≡ Equal → a ≡ b
-exact = slice_cmp-IsAntisymmetric nat_cmp-IsAntisymmetric
+exact = nat_list_cmp-IsAntisymmetric
 
 found_among : (es : List (List ℕ × ℕ)) (name : List ℕ) (n : ℕ) → find (slice_cmp nat_cmp) name es ≡ Some n → Among (name, n) es
 found_among [] name n e = absurd (let never : ⊥ = cc in never)
 found_among (x ∷ es) name n e =
     elim (slice_cmp nat_cmp name x.0) as (λ r. slice_cmp nat_cmp name x.0 ≡ r → cond (is_eq r) (Some x.1) (find (slice_cmp nat_cmp) name es) ≡ Some n → ((name, n) ≡ x) ⊎ Among (name, n) es) [
       | Less ↦ λ r f. inr (found_among es name n f)
-      | Equal ↦ λ r f. let same = exact name x.0 r in let value = some_is x.1 n f in inl (λ i. (same i, sym value i))
+      | Equal ↦ λ r f. let same = exact name x.0 r in let value = same_Some x.1 n f in inl (λ i. (same i, sym value i))
       | Greater ↦ λ r f. inr (found_among es name n f)
     ] refl e
 
@@ -172,9 +160,9 @@ origin (x ∷ more) m path n e =
       | inl f ↦
           elim (same_name path x.0) [
             | inl is ↦
-                let value = some_is x.1 n (sym (put_at nat_list_cmp_total exact m x.0 x.1) ∙ ap (get (insert m x.0 x.1)) (sym is) ∙ f) in
+                let value = same_Some x.1 n (sym (get-insert_same nat_list_cmp_total m x.0 x.1) ∙ ap (get (insert m x.0 x.1)) (sym is) ∙ f) in
                 inr (inl (λ i. (is i, sym value i)))
-            | inr other ↦ inl (sym (put_off nat_list_cmp_total exact m x.0 x.1 path other) ∙ f)
+            | inr other ↦ inl (sym (get-insert_other nat_list_cmp_total exact m x.0 x.1 path other) ∙ f)
           ]
     ]
 
@@ -183,15 +171,15 @@ unfolding with_paths
 stays [] m path n e = (n, e)
 stays (x ∷ more) m path n e =
     elim (same_name path x.0) [
-      | inl is ↦ stays more (insert m x.0 x.1) path x.1 (ap (get (insert m x.0 x.1)) is ∙ put_at nat_list_cmp_total exact m x.0 x.1)
-      | inr other ↦ stays more (insert m x.0 x.1) path n (put_off nat_list_cmp_total exact m x.0 x.1 path other ∙ e)
+      | inl is ↦ stays more (insert m x.0 x.1) path x.1 (ap (get (insert m x.0 x.1)) is ∙ get-insert_same nat_list_cmp_total m x.0 x.1)
+      | inr other ↦ stays more (insert m x.0 x.1) path n (get-insert_other nat_list_cmp_total exact m x.0 x.1 path other ∙ e)
     ]
 
 put_there : (more : List (List ℕ × ℕ)) (m : NameMap) (path : List ℕ) (n : ℕ) → Among (path, n) more → (k : ℕ) × (get (with_paths m more) path ≡ Some k)
 unfolding with_paths
 put_there [] m path n h = absurd h
 put_there (x ∷ more) m path n (inl is) =
-    stays more (insert m x.0 x.1) path x.1 (ap (λ (p : List ℕ × ℕ). get (insert m x.0 x.1) p.0) is ∙ put_at nat_list_cmp_total exact m x.0 x.1)
+    stays more (insert m x.0 x.1) path x.1 (ap (λ (p : List ℕ × ℕ). get (insert m x.0 x.1) p.0) is ∙ get-insert_same nat_list_cmp_total m x.0 x.1)
 put_there (x ∷ more) m path n (inr h) = put_there more (insert m x.0 x.1) path n h
 
 -- ---- the names of a directory
@@ -256,11 +244,11 @@ module _ (tree : FileTree) where
   unfolding below
   leads_below zero front dir n name names le e = absurd (omega (arith, le))
   leads_below (suc levels) front dir n name [] le e =
-      let t = chain (target tree.nodes dir name) (λ (d : ℕ). Some d) n e in
-      let d : t.0 ≡ n = some_is t.0 n t.2 in
+      let t = chained_from (λ (d : ℕ). Some d) (target tree.nodes dir name) n e in
+      let d : t.0 ≡ n = same_Some t.0 n t.2 in
       among_flat (here levels tree front) (listed tree.nodes (name, t.0)) (front ++ joined (name ∷ []), n) (names_in tree dir) (leads_listed dir t.0 name t.1) (inl (λ i. (sym (joined_one front name) i, sym d i)))
   leads_below (suc levels) front dir n name (next ∷ names) le e =
-      let t = chain (target tree.nodes dir name) (λ d. node_under tree.nodes d (next ∷ names)) n e in
+      let t = chained_from (λ d. node_under tree.nodes d (next ∷ names)) (target tree.nodes dir name) n e in
       let rest = leads_below levels (path_in front name) t.0 n next names (omega (arith, le)) t.2 in
       among_flat (here levels tree front) (listed tree.nodes (name, t.0)) (front ++ joined (name ∷ next ∷ names), n) (names_in tree dir) (leads_listed dir t.0 name t.1)
       (inr (subst (λ p. Among (p, n) (below levels tree (path_in front name) t.0)) (joined_more front name (next ∷ names)) rest))

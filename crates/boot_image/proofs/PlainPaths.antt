@@ -7,11 +7,8 @@ use Rattle.std.proofs.lemmas.Slice.Eq.{bytes_eq-Decides}
 use Rattle.std.proofs.lemmas.List.Concat.{flat_map-cons}
 use Rattle.std.proofs.lemmas.List.Folds.{list_any-append}
 use Rattle.std.proofs.lemmas.Str.{IsUtf8-nil, IsUtf8-append, IsUtf8-from_ascii, is_utf8-from_IsUtf8, IsUtf8-from_is_utf8}
-use Rattle.wx_types.specs.declared.errors.Errno.TheVariants.{Noent, Nametoolong, Inval}
-use Rattle.path_walk.specs.Paths.{is_dot_dot, PathParts, IsComponent, pieces, before_first, is_empty, is_dot, is_name, is_dots, ends_as_directory, parts_of, any_is_long, is_long_piece, is_no_text, is_too_long, begins_with_slash}
+use Rattle.boot_image.specs.Prelude.{Noent, Nametoolong, Inval, is_dot_dot, PathParts, IsComponent, pieces, before_first, is_empty, is_dot, is_name, is_dots, ends_as_directory, parts_of, any_is_long, is_long_piece, is_no_text, is_too_long, begins_with_slash, IsName, joined, is_plain, if_plain, plain_parts}
 use Rattle.path_walk.proofs.PartLemmas.{parts_are}
-use Rattle.file_tree.specs.Trees.{IsName}
-use Rattle.boot_image.specs.Image.{joined, is_plain, if_plain, plain_parts}
 
 -- these names, each behind a slash, are just the bytes, and `..` is none of them
 abbrev pub is_just : List ℕ → List (List ℕ) → Bool

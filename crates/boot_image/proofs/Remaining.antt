@@ -5,18 +5,10 @@ use Rattle.std.proofs.lemmas.Bool.{eqb-true, eqb-false}
 use Rattle.std.proofs.lemmas.List.{nil_from_length}
 use Rattle.std.specs.Option.{option_and_then}
 use Rattle.byte_cursor.specs.declared.leb.CursorFault.{CursorFault}
-use Rattle.file_tree.specs.FileTree.{FileTree, only_root}
-use Rattle.boot_image.specs.Entries.{Entry, Content, Directory, File, magic, bytes_of, entry_bytes, Fits}
-use Rattle.boot_image.specs.NextItem.{Next, Last, One, Other, next_at}
-use Rattle.boot_image.specs.declared.read.Step.{Step}
-use Rattle.boot_image.specs.declared.read.Step.TheVariants.{Entry as EntryStep, Last as LastStep}
-use Rattle.boot_image.specs.declared.fault.ImageFault.{ImageFault}
-use Rattle.boot_image.specs.declared.fault.ImageFault.TheVariants.{NotImage, Memory}
-use Rattle.boot_image.specs.Answers.{Means}
-use Rattle.boot_image.specs.Image.{Image, Remains, with_entry, with_entries}
-use Rattle.boot_image.specs.Steps.{IsBytes, Goes, Makes}
+use Rattle.boot_image.specs.Prelude.{FileTree, only_root, Entry, Content, Directory, File, magic, bytes_of, entry_bytes, Fits, Next, Last, One, Other, next_at, Progress, ImageFault, NotImage, Memory, Means, Image, Remains, with_entry, with_entries, IsBytes, Goes, Makes}
+use Rattle.boot_image.specs.declared.read.Progress.TheVariants.{Entry as EntryRead, Last as EndRead}
 use Rattle.boot_image.proofs.Items.{IsBytes-behind, Stands, next_takes, next_again, first_of, behind_first}
-use Rattle.boot_image.proofs.Under.{chain}
+use Rattle.finite_maps.proofs.Options.{chained_from}
 
 -- what leads from one tree to another, where this stands next
 abbrev Follows : Next → List ℕ → FileTree → FileTree → Type 0
@@ -36,7 +28,7 @@ follows bytes read before after is remains =
     by : (entries : List Entry) → AllByRecursion Fits entries → with_entries before entries ≡ Some after → FollowsRead (Ok (first_of entries)) before after
     by [] fit gives = (refl, cc)
     by (entry ∷ entries) fit gives =
-        let first = chain (with_entry before entry) (λ next. with_entries next entries) after gives in
+        let first = chained_from (λ next. with_entries next entries) (with_entry before entry) after gives in
         (first.0, first.1, record { entries = entries; fit = fit.1; are = refl; gives = first.2 })
 
 followed : (next : Next) (bytes rest : List ℕ) (before after : FileTree) → Stands next bytes rest → Follows next rest before after → Remains bytes before after
@@ -61,11 +53,11 @@ shorter bytes rest entry parts = rw parts (omega (arith, length-append (entry_by
 
 -- ---- a step
 
-pub goes : (bytes rest : List ℕ) (before after : FileTree) (item : Next) (answer : Result Step ImageFault) → IsBytes bytes → next_at bytes ≡ Ok (item, rest) → Makes item answer before after → Goes answer bytes before rest after
-goes bytes rest before after Last (Ok LastStep) fits e made = (next_takes bytes (Last, rest) fits e, made)
-goes bytes rest before after Last (Ok EntryStep) fits e made = absurd made
+pub goes : (bytes rest : List ℕ) (before after : FileTree) (item : Next) (answer : Result Progress ImageFault) → IsBytes bytes → next_at bytes ≡ Ok (item, rest) → Makes item answer before after → Goes answer bytes before rest after
+goes bytes rest before after Last (Ok EndRead) fits e made = (next_takes bytes (Last, rest) fits e, made)
+goes bytes rest before after Last (Ok EntryRead) fits e made = absurd made
 goes bytes rest before after Last (Err fault) fits e made = absurd made
-goes bytes rest before after (One entry) (Ok EntryStep) fits e made =
+goes bytes rest before after (One entry) (Ok EntryRead) fits e made =
     let is = next_takes bytes (One entry, rest) fits e in
     record {
       bytes = IsBytes-behind bytes (entry_bytes entry) rest is.0 fits;
@@ -76,7 +68,7 @@ goes bytes rest before after (One entry) (Ok EntryStep) fits e made =
           subst (λ t. Remains rest t tree) same f.2;
       from = λ tree remains. followed (One entry) bytes rest before tree is (after, made, remains);
     }
-goes bytes rest before after (One entry) (Ok LastStep) fits e made = absurd made
+goes bytes rest before after (One entry) (Ok EndRead) fits e made = absurd made
 goes bytes rest before after (One entry) (Err NotImage) fits e made = λ tree remains. let f = follows bytes (Ok (One entry, rest)) before tree e remains in cc (f.1, made)
 goes bytes rest before after (One entry) (Err Memory) fits e made = tt
 goes bytes rest before after Other (Ok step) fits e made = absurd made
@@ -94,14 +86,14 @@ module _ (whole : List ℕ) (first : FileTree) (bytes : List ℕ) (before : File
   fault_means NotImage rest after goes = λ tree remains. goes tree (to tree remains)
   fault_means Memory rest after goes = tt
 
-  pub last_means : (step : Step) (rest : List ℕ) (after : FileTree) → step ≡ LastStep → Goes (Ok step) bytes before rest after → eqb (length rest) 0 ≡ true → Remains whole first after
-  last_means LastStep rest after is last none = from after (followed Last bytes rest before after last.0 (nil_from_length rest (eqb-true (length rest) 0 none), sym last.1))
-  last_means EntryStep rest after is last none = absurd (let never : ⊥ = cc in never)
+  pub last_means : (step : Progress) (rest : List ℕ) (after : FileTree) → step ≡ EndRead → Goes (Ok step) bytes before rest after → eqb (length rest) 0 ≡ true → Remains whole first after
+  last_means EndRead rest after is last none = from after (followed Last bytes rest before after last.0 (nil_from_length rest (eqb-true (length rest) 0 none), sym last.1))
+  last_means EntryRead rest after is last none = absurd (let never : ⊥ = cc in never)
 
-  pub more_means : (step : Step) (rest : List ℕ) (after : FileTree) → step ≡ LastStep → Goes (Ok step) bytes before rest after → eqb (length rest) 0 ≡ false → Means (Remains whole first) (Err NotImage)
+  pub more_means : (step : Progress) (rest : List ℕ) (after : FileTree) → step ≡ EndRead → Goes (Ok step) bytes before rest after → eqb (length rest) 0 ≡ false → Means (Remains whole first) (Err NotImage)
   unfolding next_at
-  more_means LastStep rest after is last more = λ tree remains. eqb-false (length rest) 0 more (ap (λ (b : List ℕ). length b) (follows bytes (Ok (Last, rest)) before tree (ap next_at last.0) (to tree remains)).0)
-  more_means EntryStep rest after is last more = absurd (let never : ⊥ = cc in never)
+  more_means EndRead rest after is last more = λ tree remains. eqb-false (length rest) 0 more (ap (λ (b : List ℕ). length b) (follows bytes (Ok (Last, rest)) before tree (ap next_at last.0) (to tree remains)).0)
+  more_means EntryRead rest after is last more = absurd (let never : ⊥ = cc in never)
 
 -- the bytes behind the magic
 pub image_means : (bytes rest : List ℕ) (tree : FileTree) (answer : Result FileTree ImageFault) → bytes ≡ magic ++ rest → tree ≡ only_root → Means (Remains rest tree) answer → Means (Image bytes) answer

@@ -1,36 +1,23 @@
 -- The image that is written of a tree is read as a tree with the same paths, kinds and contents, just where no path is too long.
 use Rattle.std.proofs.Common.{◌≡◌, ℕ, ◌+◌, ◌≤◌, List, [], ◌∷◌, length, Some, refl, sym, ap, ◌∙◌, inl, inr, arith, append_assoc, ◌*◌, ◌<◌, ◌++◌, map, Option, None, Less, nat_cmp, option_map, option_and_then, subst, ◌⊎◌, length-append, append-nil, Result, Ok, Err, MatchResult}
-use Rattle.std.specs.Cmp.{nat_cmp_total, tied_itself}
-use Rattle.std.specs.FinMap.{get, remove, len, nat_cmp-IsAntisymmetric, empty, entries, get-empty, len-empty, len-entries}
-use Rattle.std.specs.Cmp.Lexicographic.{slice_cmp, nat_list_cmp_total}
 use Rattle.std.specs.List.{AllByRecursion}
 use Rattle.std.specs.List.Sorted.{IsStrictlySortedBy}
-use Rattle.std.specs.Map.{keys_of}
 use Rattle.std.specs.Ordering.{ordering_then, ordering_reverse}
 use Rattle.std.proofs.lemmas.Bool.{false≢true}
 use Rattle.std.proofs.lemmas.List.{nil_from_length, length-map}
 use Rattle.tree_nodes.specs.Nodes.{NodeMap, bytes_of_all, size_found, size_of, sizes}
-use Rattle.tree_nodes.specs.declared.node.Node.{Node}
-use Rattle.tree_nodes.proofs.MapLemmas.{taken_off, len_taken, len_new, entries_rise}
+use Rattle.boot_image.specs.Prelude.{Node, NameMap, FileTree, root, new_node, only_root, most_nodes, most_bytes, last_number, target, target_of, target_in, node_under, IsName, IsTree, Content, Directory, Fits, FitsContent, Entry, joined, with_entry, with_entries, Image, content_of, paths_of, entry_of, entries_of, image_of, content_under, SameContents, ShortPaths, ReadsBack, Means, ImageFault, NotImage, Memory}
+use Rattle.finite_maps.proofs.Maps.{get-remove_other, len-remove_there, len-insert_new, entries_rise, nat_cmp_total, tied_itself, get, remove, len, nat_cmp-IsAntisymmetric, empty, entries, get-empty, len-empty, len-entries, slice_cmp, nat_list_cmp_total, keys_of}
+use Rattle.finite_maps.proofs.Options.{chained_from}
+use Rattle.std.proofs.lemmas.Option.{same_Some}
 use Rattle.tree_nodes.proofs.NodeLemmas.{bytes_taken, bytes_put}
-use Rattle.tree_nodes.specs.Names.{NameMap}
 use Rattle.tree_nodes.specs.declared.node.Content.{Content as NodeContent}
 use Rattle.tree_nodes.specs.declared.node.Content.TheVariants.{File as FileNode, Dir}
-use Rattle.file_tree.specs.FileTree.{FileTree, root, new_node, only_root, most_nodes, most_bytes, last_number}
-use Rattle.file_tree.specs.Trees.{target, target_of, target_in, node_under, IsName, IsTree}
-use Rattle.file_tree.proofs.Links.{some_is}
 use Rattle.file_tree.proofs.TreeLemmas.{there, root_tree}
-use Rattle.boot_image.specs.Entries.{Content, Directory, Fits, FitsContent, Entry}
-use Rattle.boot_image.specs.Image.{joined, with_entry, with_entries, Image}
-use Rattle.boot_image.specs.Written.{content_of, paths_of, entry_of, entries_of, image_of}
-use Rattle.boot_image.specs.Same.{content_under, SameContents, ShortPaths, ReadsBack}
-use Rattle.boot_image.specs.Answers.{Means}
-use Rattle.boot_image.specs.declared.fault.ImageFault.{ImageFault}
-use Rattle.boot_image.specs.declared.fault.ImageFault.TheVariants.{NotImage, Memory}
 use Rattle.boot_image.proofs.PathsOf.{Among, map_among, member_above, Path, path_leads, leads_path}
-use Rattle.boot_image.proofs.Growing.{content_found, content_kind, content_is, size_is, root_content, root_alone, leads_dir, last_good, Spot, Step, grown, grows, entry_made, entry_led}
+use Rattle.boot_image.proofs.Growing.{content_found, content_kind, content_is, size_is, root_content, root_alone, leads_dir, last_good, Spot, Growth, grown, grows, entry_made, entry_led}
 use Rattle.boot_image.proofs.PlainPaths.{joined_then, joined_once}
-use Rattle.boot_image.proofs.Under.{none, some, ending, under_last, under_then, under_good, under_once, under_linked, chain}
+use Rattle.boot_image.proofs.Under.{none, some, ending, under_last, under_then, under_good, under_once, under_linked}
 use Rattle.boot_image.proofs.Items.{one_list}
 
 -- ---- different nodes are no more than all nodes, and their files have no more bytes
@@ -51,10 +38,10 @@ pub counted : (ns : List ℕ) (nodes : NodeMap) → Distinct ns → AreThere nod
 counted [] nodes apart all = (omega arith, omega arith)
 counted (n ∷ ns) nodes apart all =
     let v = all n (inl refl) in
-    let off : (m : ℕ) → Among m ns → get (remove nodes n) m ≡ get nodes m = λ m h. taken_off nat_cmp_total nat_cmp-IsAntisymmetric nodes n m (λ e. apart.0 (moved ns m e h)) in
+    let off : (m : ℕ) → Among m ns → get (remove nodes n) m ≡ get nodes m = λ m h. get-remove_other nat_cmp_total nat_cmp-IsAntisymmetric nodes n m (λ e. apart.0 (moved ns m e h)) in
     let rest = counted ns (remove nodes n) apart.1 (λ m h. let w = all m (inr h) in (w.0, off m h ∙ w.1)) in
     let same : bytes_among (remove nodes n) ns ≡ bytes_among nodes ns = sums ns off in (
-      omega (arith, rest.0, len_taken nat_cmp_total nat_cmp-IsAntisymmetric nodes n v.0 v.1),
+      omega (arith, rest.0, len-remove_there nat_cmp_total nodes n v.0 v.1),
       omega (arith, rest.1, same, bytes_taken nodes n v.0 v.1, ap size_found v.1),
     )
   where
@@ -142,7 +129,7 @@ module _ (tree : FileTree) (ok : IsTree tree.nodes tree.next) (within : bytes_of
       let p = leads_path tree n name names (omega (arith, few_names (name ∷ names) good, short (name ∷ names) n e)) e in
       let q = path_leads tree (joined (name ∷ names), p.0) p.1 in
       let same = joined_once (name ∷ names) (q.name ∷ q.names) good (all_good p.0 (q.name ∷ q.names) q.leads) q.is in
-      let node : p.0 ≡ n = some_is p.0 n (sym q.leads ∙ ap (node_under tree.nodes root) (sym same) ∙ e) in
+      let node : p.0 ≡ n = same_Some p.0 n (sym q.leads ∙ ap (node_under tree.nodes root) (sym same) ∙ e) in
       subst (λ k. Among (joined (name ∷ names), k) (entries (paths_of tree))) node p.1
 
   -- ---- a tree that has all paths but those that are left
@@ -178,7 +165,7 @@ module _ (tree : FileTree) (ok : IsTree tree.nodes tree.next) (within : bytes_of
     good : AllByRecursion IsName (front ++ last ∷ [])
     good = all_good x.1 (front ++ last ∷ []) leads
 
-    step : Step now (grown now spot.dir last (content_of tree x.1)) (front ++ last ∷ []) (content_of tree x.1)
+    step : Growth now (grown now spot.dir last (content_of tree x.1)) (front ++ last ∷ []) (content_of tree x.1)
     step = grows now left.is front last spot (last_good front last good) (content_of tree x.1)
 
     gives : with_entry now (entry_of tree x) ≡ Some (grown now spot.dir last (content_of tree x.1))
@@ -320,8 +307,8 @@ module _ (tree : FileTree) (ok : IsTree tree.nodes tree.next) (within : bytes_of
         full = full;
         only = path_leads tree;
         rises = entries_rise (slice_cmp nat_cmp) (paths_of tree);
-        nodes = omega (arith, counts.0, length-map (entries (paths_of tree)) (λ (x : List ℕ × ℕ). x.1), ok.most, len_new nat_cmp_total nat_cmp-IsAntisymmetric empty root v (get-empty nat_cmp root), len-empty nat_cmp Node);
-        next = omega (arith, len_new nat_cmp_total nat_cmp-IsAntisymmetric empty root v (get-empty nat_cmp root), len-empty nat_cmp Node);
+        nodes = omega (arith, counts.0, length-map (entries (paths_of tree)) (λ (x : List ℕ × ℕ). x.1), ok.most, len-insert_new nat_cmp_total empty root v (get-empty nat_cmp root), len-empty nat_cmp Node);
+        next = omega (arith, len-insert_new nat_cmp_total empty root v (get-empty nat_cmp root), len-empty nat_cmp Node);
         bytes = omega (arith, counts.1, within, bytes_put empty root v, ap sizes no_entries);
       }
     where
@@ -366,7 +353,7 @@ entries_short : (entries : List Entry) (tree after : FileTree) → Short tree �
 unfolding with_entries
 entries_short [] tree after short e = let same : tree ≡ after = cc in subst Short same short
 entries_short (entry ∷ entries) tree after short e =
-    let n = chain (with_entry tree entry) (λ next. with_entries next entries) after e in
+    let n = chained_from (λ next. with_entries next entries) (with_entry tree entry) after e in
     entries_short entries n.0 after (entry_short tree n.0 entry short n.1) n.2
 
 root_short : Short only_root

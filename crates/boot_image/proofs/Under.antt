@@ -1,13 +1,10 @@
 -- The nodes that names lead to.
-use Rattle.std.proofs.Common.{◌≡◌, ℕ, zero, suc, ◌+◌, ◌≤◌, List, [], ◌∷◌, ◌++◌, length, Option, Some, None, option_and_then, refl, sym, ap, ◌∙◌, ◌⊎◌, inl, inr, arith, length-append}
+use Rattle.std.proofs.Common.{◌≡◌, ℕ, zero, suc, ◌+◌, ◌≤◌, List, [], ◌∷◌, ◌++◌, length, Some, None, option_and_then, refl, sym, ap, ◌∙◌, ◌⊎◌, inl, inr, arith, length-append}
 use Rattle.std.specs.List.{AllByRecursion}
-use Rattle.file_tree.specs.FileTree.{NodeMap, root, parent_of}
-use Rattle.file_tree.specs.Trees.{target, node_under, IsName, IsTree}
-use Rattle.file_tree.proofs.Links.{some_is, none_never, same_found, same_place, IsPlace}
-
-pub chain : {A B : Type 0} (o : Option A) (f : A → Option B) (y : B) → option_and_then f o ≡ Some y → (x : A) × (o ≡ Some x) × (f x ≡ Some y)
-chain None f y e = absurd (let never : ⊥ = cc in never)
-chain (Some x) f y e = (x, refl, e)
+use Rattle.boot_image.specs.Prelude.{NodeMap, root, parent_of, target, node_under, IsName, IsTree}
+use Rattle.finite_maps.proofs.Options.{chained_from, none_never, same_found}
+use Rattle.std.proofs.lemmas.Option.{same_Some}
+use Rattle.file_tree.proofs.Links.{same_place, IsPlace}
 
 -- a list is empty, or has a last element
 pub data Ending (xs : List (List ℕ)) : Type 0 where
@@ -37,8 +34,8 @@ module _ (nodes : NodeMap) where
   -- the directory of the last name
   pub under_last : (dir n : ℕ) (front : List (List ℕ)) (name : List ℕ) → node_under nodes dir (front ++ name ∷ []) ≡ Some n → (d : ℕ) × (node_under nodes dir front ≡ Some d) × (target nodes d name ≡ Some n)
   under_last dir n front name e =
-      let t = chain (node_under nodes dir front) (λ d. node_under nodes d (name ∷ [])) n (sym (under_more dir front (name ∷ [])) ∙ e) in
-      let u = chain (target nodes t.0 name) (λ (m : ℕ). Some m) n t.2 in
+      let t = chained_from (λ d. node_under nodes d (name ∷ [])) (node_under nodes dir front) n (sym (under_more dir front (name ∷ [])) ∙ e) in
+      let u = chained_from (λ (m : ℕ). Some m) (target nodes t.0 name) n t.2 in
       (t.0, t.1, u.1 ∙ u.2)
 
   pub under_then : (dir d n : ℕ) (front : List (List ℕ)) (name : List ℕ) → node_under nodes dir front ≡ Some d → target nodes d name ≡ Some n → node_under nodes dir (front ++ name ∷ []) ≡ Some n
@@ -49,14 +46,14 @@ module _ (nodes : NodeMap) where
     pub under_good : (dir n : ℕ) (names : List (List ℕ)) → node_under nodes dir names ≡ Some n → AllByRecursion IsName names
     under_good dir n [] e = tt
     under_good dir n (name ∷ names) e =
-        let t = chain (target nodes dir name) (λ d. node_under nodes d names) n e in
+        let t = chained_from (λ d. node_under nodes d names) (target nodes dir name) n e in
         ((tree.links.named dir t.0 name t.1).good, under_good t.0 n names t.2)
 
     -- what a node is named by is there
     pub under_linked : (dir up n : ℕ) (names : List (List ℕ)) → parent_of nodes dir ≡ Some up → node_under nodes dir names ≡ Some n → (above : ℕ) × (parent_of nodes n ≡ Some above)
-    under_linked dir up n [] linked e = (up, ap (parent_of nodes) (sym (some_is dir n e)) ∙ linked)
+    under_linked dir up n [] linked e = (up, ap (parent_of nodes) (sym (same_Some dir n e)) ∙ linked)
     under_linked dir up n (name ∷ names) linked e =
-        let t = chain (target nodes dir name) (λ d. node_under nodes d names) n e in
+        let t = chained_from (λ d. node_under nodes d names) (target nodes dir name) n e in
         under_linked t.0 dir n names (tree.links.named dir t.0 name t.1).above t.2
 
     never_root : (names front : List (List ℕ)) (last : List ℕ) → names ≡ front ++ last ∷ [] → node_under nodes root names ≡ Some root → ⊥
@@ -86,9 +83,9 @@ module _ (nodes new : NodeMap) (fresh dir : ℕ) (name : List ℕ) (free : targe
     (no_names : (n : List ℕ) → target new fresh n ≡ None) where
   -- the name behind the names that lead to its directory leads to the node
   pub under_new : (from : ℕ) (front : List (List ℕ)) → node_under nodes from front ≡ Some dir → node_under new from (front ++ name ∷ []) ≡ Some fresh
-  under_new from [] e = ap (λ d. node_under new d (name ∷ [])) (some_is from dir e) ∙ ap (option_and_then (λ (m : ℕ). Some m)) at
+  under_new from [] e = ap (λ d. node_under new d (name ∷ [])) (same_Some from dir e) ∙ ap (option_and_then (λ (m : ℕ). Some m)) at
   under_new from (x ∷ front) e =
-      let t = chain (target nodes from x) (λ d. node_under nodes d front) dir e in
+      let t = chained_from (λ d. node_under nodes d front) (target nodes from x) dir e in
       let other = off from x (λ place. none_never (target nodes dir name) t.0 free ((λ i. target nodes (sym place.0 i) (sym place.1 i)) ∙ t.1)) in
       ap (option_and_then (λ d. node_under new d (front ++ name ∷ []))) (other ∙ t.1) ∙ under_new t.0 front t.2
 

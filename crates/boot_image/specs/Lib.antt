@@ -2,6 +2,7 @@ pub mod Entries
 pub mod NextItem
 pub mod Image
 pub mod Answers
-pub mod Steps
+pub mod Progress
 pub mod Written
 pub mod Same
+pub mod Prelude

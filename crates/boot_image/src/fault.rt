@@ -12,7 +12,7 @@ pub enum ImageFault {
     /// They are no image.
     #[error("no image")]
     NotImage,
-    /// Want of memory.
+    /// Out of memory.
     #[error("out of memory")]
     Memory,
 }

@@ -34,7 +34,7 @@ impl FoundPaths {
         }
     }
 
-    /// Lets the path name the node. `AllocError` is want of memory and nothing else.
+    /// Lets the path name the node. `AllocError` means out of memory and nothing else.
     #[tactic(auto, using(crate::proofs::PathsOf::path_put))]
     pub fn insert(&mut self, path: Name, node: u32) -> Result<(), AllocError>
         ensures { OnOk result (self.new ≡ insert self.old path node) }

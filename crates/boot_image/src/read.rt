@@ -3,7 +3,7 @@ ghost use Rattle.boot_image.specs.Entries as format;
 ghost use Rattle.boot_image.specs.Image.{Image, Remains, with_entry};
 ghost use Rattle.boot_image.specs.Answers.{IsLeft, Means};
 ghost use Rattle.boot_image.specs.NextItem.{seen};
-ghost use Rattle.boot_image.specs.Steps.{IsBytes, Goes, Makes};
+ghost use Rattle.boot_image.specs.Progress.{IsBytes, Goes, Makes};
 
 use crate::fault::ImageFault;
 use crate::item::{Item, next};
@@ -47,9 +47,9 @@ pub fn make_file(
     Ok(())
 }
 
-/// What a step over an image came to.
+/// What the reader took from an image.
 #[derive(Clone, Copy, Debug)]
-enum Step {
+enum Progress {
     /// An entry was read, and the tree has what it gives.
     Entry,
     /// The end of the entries was read.
@@ -57,21 +57,25 @@ enum Step {
 }
 
 // the tree with what an item gives
-fn make(alloc: Global, tree: &mut Tree, item: Item<'_>) -> Result<Step, ImageFault>
+fn make(alloc: Global, tree: &mut Tree, item: Item<'_>) -> Result<Progress, ImageFault>
     ensures { Makes (seen item.entry) result tree.old tree.new }
 {
     match item {
-        Item::Last => return Ok(Step::Last),
+        Item::Last => return Ok(Progress::Last),
         Item::Directory(path) => make_directory(alloc, tree, path)?,
         Item::File(path, bytes) => make_file(alloc, tree, path, bytes)?,
         Item::Other => return Err(ImageFault::NotImage),
     }
-    Ok(Step::Entry)
+    Ok(Progress::Entry)
 }
 
 // reads what stands next, and gives the tree what it says
 #[tactic(auto, using(crate::proofs::Remaining::goes, crate::proofs::Remaining::none_where_fault))]
-fn take_next(alloc: Global, tree: &mut Tree, cursor: &mut Cursor<'_>) -> Result<Step, ImageFault>
+fn take_next(
+    alloc: Global,
+    tree: &mut Tree,
+    cursor: &mut Cursor<'_>,
+) -> Result<Progress, ImageFault>
     requires { IsBytes cursor.old }
     ensures { Goes result cursor.old tree.old cursor.new tree.new }
 {
@@ -79,7 +83,7 @@ fn take_next(alloc: Global, tree: &mut Tree, cursor: &mut Cursor<'_>) -> Result<
     make(alloc, tree, item)
 }
 
-// the tree with what all entries give, from the bytes behind the magic
+// the tree with what all entries give, from the bytes after the magic
 #[tactic(auto, using(crate::proofs::Remaining::fault_means, crate::proofs::Remaining::last_means))]
 fn fill(alloc: Global, tree: Tree, bytes: &[u8]) -> Result<Tree, ImageFault>
     ensures { Means (Remains bytes.now tree) result }
@@ -88,8 +92,8 @@ fn fill(alloc: Global, tree: Tree, bytes: &[u8]) -> Result<Tree, ImageFault>
     let mut cursor = Cursor::new(bytes);
     'entries: loop {
         match take_next(alloc, &mut tree, &mut cursor)? {
-            Step::Entry => {}
-            Step::Last => break 'entries,
+            Progress::Entry => {}
+            Progress::Last => break 'entries,
         }
     }
     if cursor.is_empty() {
@@ -99,7 +103,7 @@ fn fill(alloc: Global, tree: Tree, bytes: &[u8]) -> Result<Tree, ImageFault>
     }
 }
 
-/// The tree of an image. `NotImage` comes exactly where the bytes are no image, and `Memory` for want of memory. The bytes are
+/// The tree of an image. `NotImage` comes exactly where the bytes are no image, and `Memory` for out of memory. The bytes are
 /// read once, and a file's bytes are copied once.
 #[tactic(auto, using(crate::proofs::Remaining::image_means))]
 pub fn read_image(alloc: Global, bytes: &[u8]) -> Result<Tree, ImageFault>

@@ -155,7 +155,7 @@ fn put_entry(
 
 /// The image of a tree: an entry for each path but the root's, in the order of the bytes of the paths. Exactly where no path
 /// has more than 1,024 bytes, the bytes are an image of a tree with the same paths, kinds and contents, which `read_image` gives
-/// for them; a longer path, as moved directories may make, is none that an image can have. `AllocError` is want of memory and
+/// for them; a longer path, as moved directories may make, is none that an image can have. `AllocError` is out of memory and
 /// nothing else.
 pub fn write_image(alloc: Global, tree: &Tree) -> Result<Bytes, AllocError>
     ensures image { IfOk result (λ bytes. bytes ≡ image_of tree.now) }

@@ -1,16 +1,12 @@
 -- The numbers with a mark, closed one after another.
-use Rattle.std.proofs.Common.{◌≡◌, ◌≢◌, ℕ, suc, zero, ◌+◌, ◌≤◌, true, false, cond, not, ◌&&◌, [], ◌∷◌, ◌++◌, length, Option, Some, None, is_some, refl, sym, ap, ◌∙◌, subst, arith, ⊎_elim, ltb, add-one, length-append}
+use Rattle.std.proofs.Common.{◌≡◌, ◌≢◌, ℕ, suc, zero, ◌+◌, ◌≤◌, true, false, cond, not, ◌&&◌, [], ◌∷◌, ◌++◌, length, Option, Some, None, is_some, refl, sym, ap, ◌∙◌, subst, arith, inl, inr, ltb, add-one, length-append}
 use Rattle.std.specs.List.{filter_map, range_with_len, cons_option}
 use Rattle.std.specs.Bool.{if◌then◌else◌}
-use Rattle.fd_table.specs.declared.table.Descriptor.{Descriptor}
+use Rattle.fd_table.specs.Prelude.{Descriptor, Table, marked_id, marked_below, without_marked_below}
 use Rattle.std.specs.Option.{option_to_list, option_and_then}
-use Rattle.std.specs.Cmp.{nat_cmp_total}
-use Rattle.std.specs.FinMap.{get, remove, get-retain_keys, same_map, nat_cmp-IsAntisymmetric}
-use Rattle.std.proofs.lemmas.Bool.{cases_eq}
+use Rattle.finite_maps.proofs.Maps.{get, remove, get-retain_keys, same_map, nat_cmp_total, nat_cmp-IsAntisymmetric, is_remove, same_key}
 use Rattle.std.proofs.lemmas.Bool.Decides.{nat_tests}
 use Rattle.std.proofs.lemmas.List.Elements.{filter_map-append}
-use Rattle.fd_table.specs.Table.{Table, marked_id, marked_below, without_marked_below}
-use Rattle.fd_table.proofs.PlaceLemmas.{removed}
 
 range_more : (a n j : ℕ) → a + n ≡ j → range_with_len a (suc n) ≡ range_with_len a n ++ j ∷ []
 range_more a zero j e = let same : a ≡ j = omega arith in ap (λ k. k ∷ []) same
@@ -81,13 +77,14 @@ here table n = get-without_marked_below table (n + 1) n ∙ ap (λ b. cond (not 
 
 pub without_marked_below-marked : (table : Table) (n id : ℕ) → marked_id table n ≡ Some id → without_marked_below table (n + 1) ≡ remove (without_marked_below table n) n
 without_marked_below-marked table n id marked =
-    removed _ _ n (here table n ∙ ap (λ o. cond (not (is_some o)) (get table n) None) marked) (others table n)
+    is_remove nat_cmp_total nat_cmp-IsAntisymmetric _ _ n (here table n ∙ ap (λ o. cond (not (is_some o)) (get table n) None) marked) (others table n)
 
 pub without_marked_below-unmarked : (table : Table) (n : ℕ) → marked_id table n ≡ None → without_marked_below table (n + 1) ≡ without_marked_below table n
 without_marked_below-unmarked table n unmarked =
     same_map nat_cmp_total nat_cmp-IsAntisymmetric _ _
-    (λ q. ⊎_elim
-    (λ (e : q ≡ n). subst (λ k. get (without_marked_below table (n + 1)) k ≡ get (without_marked_below table n) k) (sym e)
-    (here table n ∙ ap (λ o. cond (not (is_some o)) (get table n) None) unmarked ∙ sym (get_at table n)))
-    (λ (ne : q ≢ n). others table n q ne)
-    (cases_eq q n))
+    (λ q.
+    elim (same_key nat_cmp_total nat_cmp-IsAntisymmetric q n) [
+      | inl e ↦ subst (λ k. get (without_marked_below table (n + 1)) k ≡ get (without_marked_below table n) k) (sym e)
+          (here table n ∙ ap (λ o. cond (not (is_some o)) (get table n) None) unmarked ∙ sym (get_at table n))
+      | inr ne ↦ others table n q ne
+    ])

@@ -1,4 +1,3 @@
 pub mod ExecLemmas
 pub mod PlaceLemmas
-pub mod TotalLemmas
 pub mod WordLemmas

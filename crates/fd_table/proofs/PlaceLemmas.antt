@@ -1,11 +1,11 @@
 -- What a map of places has at a number, and after one place was written.
-use Rattle.std.proofs.Common.{◌≡◌, ◌≢◌, ℕ, suc, zero, ◌+◌, ◌<◌, Bool, true, false, cond, ◌&&◌, List, [], ◌∷◌, length, get_or, Option, Some, None, ⊎_elim, refl, sym, ap, ◌∙◌, subst, arith, T}
+use Rattle.std.proofs.Common.{◌≡◌, ◌≢◌, ℕ, suc, zero, ◌+◌, ◌<◌, Bool, true, false, ◌&&◌, List, [], ◌∷◌, length, get_or, Option, Some, None, refl, sym, ◌∙◌, subst, arith, T}
 use Rattle.std.proofs.Math.ListN.{set}
 use Rattle.std.specs.Ordering.{nat_cmp, eq_by_cmp, is_lt}
 use Rattle.std.specs.Cmp.{nat_cmp_total, unsigned_tied}
-use Rattle.std.specs.FinMap.{FinMap, get, insert, remove, empty, get-empty, entries, find, is_sorted, get-from_sorted, get-insert, get-remove, same_map, entries-from_sorted, nat_cmp-IsAntisymmetric}
+use Rattle.std.specs.FinMap.{get-from_sorted, entries-from_sorted}
+use Rattle.finite_maps.proofs.Maps.{empty, get, insert, remove, entries, find, is_sorted, get-empty, same_map, nat_cmp-IsAntisymmetric, is_insert, is_remove}
 use Rattle.std.specs.FinMap.Entries.{below_all}
-use Rattle.std.proofs.lemmas.Bool.{cases_eq}
 use Rattle.std.proofs.lemmas.List.{get_or-set_same, get_or-set_other}
 use Rattle.std.proofs.lemmas.Bool.Decides.{nat_tests}
 use Rattle.fd_table.specs.Places.{placed_from, by_place}
@@ -17,10 +17,10 @@ both false b p q = absurd p
 less : (x y : ℕ) → x < y → T (is_lt (nat_cmp x y))
 less x y h = let e : is_lt (nat_cmp x y) ≡ true = grind (arith, nat_tests) in subst T (sym e) tt
 
-pub tied_same : (x y : ℕ) → x ≡ y → eq_by_cmp nat_cmp x y ≡ true
+tied_same : (x y : ℕ) → x ≡ y → eq_by_cmp nat_cmp x y ≡ true
 tied_same x y e = unsigned_tied x y ∙ grind (arith, nat_tests)
 
-pub tied_other : (x y : ℕ) → x ≢ y → eq_by_cmp nat_cmp x y ≡ false
+tied_other : (x y : ℕ) → x ≢ y → eq_by_cmp nat_cmp x y ≡ false
 tied_other x y e = unsigned_tied x y ∙ grind (arith, nat_tests)
 
 module _ {X : Type 0} where
@@ -58,50 +58,14 @@ module _ {X : Type 0} where
   unfolding by_place
   entries-by_place places = entries-from_sorted nat_cmp (placed_from 0 places) (sorted 0 places)
 
-  -- a map that has this at a number, and at every other what the first has, is the first with that
-  -- number inserted or removed
-  pub inserted : (old new : FinMap nat_cmp X) (k : ℕ) (v : X) → get new k ≡ Some v → ((q : ℕ) → q ≢ k → get new q ≡ get old q) → new ≡ insert old k v
-  inserted old new k v here there = same_map nat_cmp_total nat_cmp-IsAntisymmetric new (insert old k v) (λ q. at q ∙ sym (get-insert nat_cmp_total old k v q))
-    where
-      at : (q : ℕ) → get new q ≡ cond (eq_by_cmp nat_cmp q k) (Some v) (get old q)
-      at q = ⊎_elim
-          (λ (e : q ≡ k). ap (get new) e ∙ here ∙ sym (ap (λ b. cond b (Some v) (get old q)) (tied_same q k e)))
-          (λ (ne : q ≢ k). there q ne ∙ sym (ap (λ b. cond b (Some v) (get old q)) (tied_other q k ne)))
-          (cases_eq q k)
-
-  pub removed : (old new : FinMap nat_cmp X) (k : ℕ) → get new k ≡ None → ((q : ℕ) → q ≢ k → get new q ≡ get old q) → new ≡ remove old k
-  removed old new k here there = same_map nat_cmp_total nat_cmp-IsAntisymmetric new (remove old k) (λ q. at q ∙ sym (get-remove nat_cmp_total old k q))
-    where
-      at : (q : ℕ) → get new q ≡ cond (eq_by_cmp nat_cmp q k) None (get old q)
-      at q = ⊎_elim
-          (λ (e : q ≡ k). ap (get new) e ∙ here ∙ sym (ap (λ b. cond b None (get old q)) (tied_same q k e)))
-          (λ (ne : q ≢ k). there q ne ∙ sym (ap (λ b. cond b None (get old q)) (tied_other q k ne)))
-          (cases_eq q k)
-
-  pub get-insert_same : (m : FinMap nat_cmp X) (k : ℕ) (v : X) → get (insert m k v) k ≡ Some v
-  get-insert_same m k v = get-insert nat_cmp_total m k v k ∙ ap (λ b. cond b (Some v) (get m k)) (tied_same k k refl)
-
-  pub get-insert_other : (m : FinMap nat_cmp X) (k : ℕ) (v : X) (q : ℕ) → q ≢ k → get (insert m k v) q ≡ get m q
-  get-insert_other m k v q ne = get-insert nat_cmp_total m k v q ∙ ap (λ b. cond b (Some v) (get m q)) (tied_other q k ne)
-
-  pub get-remove_same : (m : FinMap nat_cmp X) (k : ℕ) → get (remove m k) k ≡ None
-  get-remove_same m k = get-remove nat_cmp_total m k k ∙ ap (λ b. cond b None (get m k)) (tied_same k k refl)
-
-  pub get-remove_other : (m : FinMap nat_cmp X) (k q : ℕ) → q ≢ k → get (remove m k) q ≡ get m q
-  get-remove_other m k q ne = get-remove nat_cmp_total m k q ∙ ap (λ b. cond b None (get m q)) (tied_other q k ne)
-
-  -- a map without a number is the map with that number removed
-  pub remove_absent : (m : FinMap nat_cmp X) (k : ℕ) → get m k ≡ None → m ≡ remove m k
-  remove_absent m k none = removed m m k none (λ q ne. refl)
-
   pub by_place-put : (places : List (Option X)) (k : ℕ) (v : X) → k < length places → by_place (set places k (Some v)) ≡ insert (by_place places) k v
   by_place-put places k v h =
-      inserted _ _ k v (get-by_place _ k ∙ get_or-set_same places k (Some v) None h)
+      is_insert nat_cmp_total nat_cmp-IsAntisymmetric _ _ k v (get-by_place _ k ∙ get_or-set_same places k (Some v) None h)
       (λ q ne. get-by_place _ q ∙ get_or-set_other places k q (Some v) None ne ∙ sym (get-by_place places q))
 
   pub by_place-cleared : (places : List (Option X)) (k : ℕ) → k < length places → by_place (set places k None) ≡ remove (by_place places) k
   by_place-cleared places k h =
-      removed _ _ k (get-by_place _ k ∙ get_or-set_same places k None None h)
+      is_remove nat_cmp_total nat_cmp-IsAntisymmetric _ _ k (get-by_place _ k ∙ get_or-set_same places k None None h)
       (λ q ne. get-by_place _ q ∙ get_or-set_other places k q None None ne ∙ sym (get-by_place places q))
 
   pub by_place-none : (places : List (Option X)) → ((q : ℕ) → get_or places q None ≡ None) → by_place places ≡ empty

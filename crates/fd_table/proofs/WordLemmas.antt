@@ -10,9 +10,7 @@ use Rattle.std.proofs.lemmas.Bool.{cases_eq, cases_lt}
 use Rattle.std.proofs.lemmas.List.{get_or-set_same, get_or-set_other, get_or-replicate, get_or_past, length-replicate}
 use Rattle.std.proofs.lemmas.Nat.{or_lt, and_le_l}
 use Rattle.std.proofs.lemmas.Nat.Bits.{bit_at_set_same, bit_at_set_other, bit_at_clear_same, bit_at_clear_other, bit_at-trailing_ones, bit_at_ones, bit_at-zero}
-use Rattle.fd_table.specs.declared.table.Descriptor.{Descriptor}
-use Rattle.fd_table.specs.Places.{by_place}
-use Rattle.fd_table.specs.Table.{HasWord, lowest_free}
+use Rattle.fd_table.specs.Prelude.{Descriptor, by_place, HasWord, lowest_free}
 use Rattle.fd_table.proofs.PlaceLemmas.{get-by_place, by_place-none}
 
 -- 1 for a place that is not empty

@@ -1,3 +1,3 @@
 pub mod Places
 pub mod Table
-pub mod Totals
+pub mod Prelude

@@ -44,7 +44,7 @@ impl Model for FdTable {
 }
 
 impl FdTable {
-    /// An empty table, with memory for all descriptors. `AllocError` is want of memory.
+    /// An empty table, with memory for all descriptors. `AllocError` is out of memory.
     pub fn new(alloc: Global) -> Result<FdTable, AllocError>
         ensures { IfOk result (λ table. table ≡ empty) }
     {
@@ -181,7 +181,7 @@ impl FdTable {
     }
 
     /// The table of a child: the same numbers, with their marks (POSIX.1-2017, `fork`). `AllocError` is
-    /// want of memory.
+    /// out of memory.
     pub fn copy_for_fork(&self, alloc: Global) -> Result<FdTable, AllocError>
         ensures { IfOk result (λ table. table ≡ self.now) }
     {

@@ -1,30 +1,16 @@
 -- Where a walk ends, and what its last component is.
 use Rattle.std.proofs.Common.{◌≡◌, ℕ, Bool, true, false, cond, List, [], ◌∷◌, Option, Some, None, Result, Ok, Err, ok_or, unwrap_or, refl, sym, ap, subst, ◌∙◌, inl, inr}
 use Rattle.std.specs.FinMap.{get}
+use Rattle.finite_maps.proofs.Options.{ok_from}
 use Rattle.std.specs.List.{last_or, AllByRecursion}
 use Rattle.std.proofs.lemmas.Bool.{false≢true, or_right}
-use Rattle.path_walk.specs.Paths.{PathParts, AreParts, IsComponent, is_dot, is_dot_dot, is_dots}
-use Rattle.file_tree.specs.FileTree.{NodeMap, root, parent_of}
-use Rattle.file_tree.specs.Names.{is_dir}
-use Rattle.file_tree.specs.Trees.{Leads, is_dir_node, IsName, IsTree}
-use Rattle.file_tree.specs.Walk.{and_then, names_of, content_at, names_at, place_itself, step, walk_on, is_dir_or_missing, walk, last_name, is_nil, names_no_entry}
-use Rattle.file_tree.specs.declared.place.Place.{Place}
+use Rattle.file_tree.specs.Prelude.{PathParts, AreParts, IsComponent, is_dot, is_dot_dot, is_dots, NodeMap, root, parent_of, is_dir, Leads, is_dir_node, IsName, IsTree, and_then, names_of, content_at, names_at, place_itself, step, walk_on, is_dir_or_missing, walk, last_name, is_nil, names_no_entry, Place, NameMap, Content, File, Dir, Node, Errno, Noent}
 use Rattle.file_tree.proofs.Links.{same_number}
 use Rattle.file_tree.proofs.TreeLemmas.{leads_to}
-use Rattle.tree_nodes.specs.Names.{NameMap}
-use Rattle.tree_nodes.specs.declared.node.Content.{Content}
-use Rattle.tree_nodes.specs.declared.node.Content.TheVariants.{File, Dir}
-use Rattle.tree_nodes.specs.declared.node.Node.{Node}
-use Rattle.wx_types.specs.declared.errors.Errno.{Errno}
-use Rattle.wx_types.specs.declared.errors.Errno.TheVariants.{Noent}
 
 pub then_ok : {X Y : Type 0} (r : Result X Errno) (f : X → Result Y Errno) (y : Y) → and_then r f ≡ Ok y → (x : X) × (r ≡ Ok x) × (f x ≡ Ok y)
 then_ok (Ok x) f y e = (x, refl, e)
 then_ok (Err d) f y e = absurd (let never : ⊥ = cc in never)
-
-some_ok : (o : Option ℕ) (x : ℕ) → ok_or o Noent ≡ Ok x → o ≡ Some x
-some_ok None x e = absurd (let never : ⊥ = cc in never)
-some_ok (Some y) x e = cc
 
 -- a directory that is there, with its names
 pub dir_found : (nodes : NodeMap) (dir : ℕ) (names : NameMap) → names_at nodes dir ≡ Ok names → (v : Node) × (get nodes dir ≡ Some v) × (v.content ≡ Dir names)
@@ -89,7 +75,7 @@ step_up nodes d name end e dots =
     let f = sym (ap (λ b. cond b (and_then (ok_or (parent_of nodes d) Noent) (λ parent. Ok (place_itself parent))) (Ok at)) dots) ∙ n.2 in
     let p = then_ok (ok_or (parent_of nodes d) Noent) (λ parent. Ok (place_itself parent)) end f in
     let is : place_itself p.0 ≡ end = let g = p.2 in cc in
-    (p.0, some_ok (parent_of nodes d) p.0 p.1, sym (ap (λ (q : Place). q.node) is))
+    (p.0, ok_from (parent_of nodes d) Noent p.0 p.1, sym (ap (λ (q : Place). q.node) is))
 
 -- the last component is a name or `..`
 pub last_component : (names : List (List ℕ)) → AllByRecursion IsComponent names → is_nil names ≡ false → IsComponent (unwrap_or (last_or None names) [])

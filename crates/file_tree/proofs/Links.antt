@@ -1,23 +1,15 @@
 -- Parents and names: what a new name, a name that goes and a node that moves leave of the tree below the root.
-use Rattle.std.proofs.Common.{◌≡◌, ℕ, zero, suc, List, Option, Some, None, Ordering, Less, Equal, Greater, nat_cmp, refl, sym, ap, subst, subst₂, ◌∙◌, ◌⊎◌, inl, inr}
-use Rattle.std.specs.Cmp.{tied_itself}
-use Rattle.std.specs.Cmp.Lexicographic.{slice_cmp, nat_list_cmp_total}
-use Rattle.std.specs.FinMap.{slice_cmp-IsAntisymmetric, nat_cmp-IsAntisymmetric}
-use Rattle.std.proofs.lemmas.Bool.Decides.{eqb_tells}
-use Rattle.file_tree.specs.FileTree.{root}
-use Rattle.file_tree.specs.Trees.{IsName, IsNamed, Climbs, AreLinks}
+use Rattle.std.proofs.Common.{◌≡◌, ℕ, zero, suc, List, Option, Some, None, refl, sym, ap, subst, subst₂, ◌∙◌, ◌⊎◌, inl, inr}
+use Rattle.finite_maps.proofs.Maps.{nat_cmp_total, nat_cmp-IsAntisymmetric, nat_list_cmp_total, nat_list_cmp-IsAntisymmetric, same_key}
+use Rattle.finite_maps.proofs.Options.{none_never, same_found}
+use Rattle.file_tree.specs.Prelude.{root, IsName, IsNamed, Climbs, AreLinks}
 
 -- two numbers, or two names, are one or not
 pub same_number : (a b : ℕ) → (a ≡ b) ⊎ (a ≡ b → ⊥)
-same_number a b = elim (eqb_tells a b) [ inl t ↦ inl t.1 | inr t ↦ inr t.1 ]
+same_number = same_key nat_cmp_total nat_cmp-IsAntisymmetric
 
 pub same_name : (a b : List ℕ) → (a ≡ b) ⊎ (a ≡ b → ⊥)
-same_name a b = told (slice_cmp nat_cmp a b) refl
-  where
-    told : (r : Ordering) → slice_cmp nat_cmp a b ≡ r → (a ≡ b) ⊎ (a ≡ b → ⊥)
-    told Less e = inr (λ is. let itself : slice_cmp nat_cmp a b ≡ Equal = subst (λ c. slice_cmp nat_cmp a c ≡ Equal) is (tied_itself nat_list_cmp_total a) in let never : ⊥ = cc in never)
-    told Equal e = inl (slice_cmp-IsAntisymmetric nat_cmp-IsAntisymmetric a b e)
-    told Greater e = inr (λ is. let itself : slice_cmp nat_cmp a b ≡ Equal = subst (λ c. slice_cmp nat_cmp a c ≡ Equal) is (tied_itself nat_list_cmp_total a) in let never : ⊥ = cc in never)
+same_name = same_key nat_list_cmp_total nat_list_cmp-IsAntisymmetric
 
 abbrev pub IsPlace : ℕ → List ℕ → ℕ → List ℕ → Type 0
 IsPlace dir name d n = (d ≡ dir) × (n ≡ name)
@@ -29,19 +21,10 @@ same_place dir name d n =
       | inr e ↦ inr (λ p. e p.0)
     ]
 
-pub some_is : (a b : ℕ) → ◌≡◌ {A = Option ℕ} (Some a) (Some b) → a ≡ b
-some_is a b e = cc
-
-pub none_never : (o : Option ℕ) (a : ℕ) → o ≡ None → o ≡ Some a → ⊥
-none_never o a n s = cc
-
-pub same_found : (o : Option ℕ) (a b : ℕ) → o ≡ Some a → o ≡ Some b → a ≡ b
-same_found o a b x y = some_is a b (sym x ∙ y)
-
 -- so many steps up lead from one node to another
-abbrev pub Steps : (ℕ → Option ℕ) → ℕ → ℕ → ℕ → Type 0
-Steps parent zero from to = from ≡ to
-Steps parent (suc steps) from to = (dir : ℕ) × (parent from ≡ Some dir) × Steps parent steps dir to
+abbrev pub Ascends : (ℕ → Option ℕ) → ℕ → ℕ → ℕ → Type 0
+Ascends parent zero from to = from ≡ to
+Ascends parent (suc steps) from to = (dir : ℕ) × (parent from ≡ Some dir) × Ascends parent steps dir to
 
 pub climbs_once : (p : ℕ → Option ℕ) (a b n : ℕ) → Climbs p a n → Climbs p b n → a ≡ b
 climbs_once p zero zero n x y = refl
@@ -71,7 +54,7 @@ module _ (p : ℕ → Option ℕ) (t : ℕ → List ℕ → Option ℕ) (links :
       at None e = refl
       at (Some n) e = let named = links.named k n name e in let c = links.climbs n k named.above in absurd (up c.0 n c.1 named.below named.above)
 
-  pub root_stays : (number j n : ℕ) → n ≡ root → Steps p j n number → number ≡ root
+  pub root_stays : (number j n : ℕ) → n ≡ root → Ascends p j n number → number ≡ root
   root_stays number zero n e h = sym h ∙ e
   root_stays number (suc j) n e h = root_stays number j h.0 (same_found (p n) h.0 root h.1 (ap p e ∙ links.top)) h.2
 
@@ -194,7 +177,7 @@ module _ (p : ℕ → Option ℕ) (t : ℕ → List ℕ → Option ℕ) (links :
 
   -- a node that moves to a new name, in a directory that isn't below it
   module _ (number dir new_dir up : ℕ) (name new_name : List ℕ) (at : t dir name ≡ Some number) (free : t new_dir new_name ≡ None) (linked : p new_dir ≡ Some up)
-      (good : IsName new_name) (apart : (j : ℕ) → Steps p j new_dir number → ⊥)
+      (good : IsName new_name) (apart : (j : ℕ) → Ascends p j new_dir number → ⊥)
       (q : ℕ → Option ℕ) (u : ℕ → List ℕ → Option ℕ) (q_new : q number ≡ Some new_dir) (q_old : (n : ℕ) → (n ≡ number → ⊥) → q n ≡ p n)
       (u_new : u new_dir new_name ≡ Some number) (u_gone : u dir name ≡ None)
       (u_old : (d : ℕ) (n : List ℕ) → (IsPlace dir name d n → ⊥) → (IsPlace new_dir new_name d n → ⊥) → u d n ≡ t d n) where
@@ -215,7 +198,7 @@ module _ (p : ℕ → Option ℕ) (t : ℕ → List ℕ → Option ℕ) (links :
     had_moved : (d n : ℕ) (m : List ℕ) → u d m ≡ Some n → (IsPlace new_dir new_name d m → ⊥) → t d m ≡ Some n
     had_moved d n m e other = sym (u_old d m (not_old d n m e) other) ∙ e
 
-    avoid : (k n : ℕ) → Climbs p k n → ((j : ℕ) → Steps p j n number → ⊥) → Climbs q k n
+    avoid : (k n : ℕ) → Climbs p k n → ((j : ℕ) → Ascends p j n number → ⊥) → Climbs q k n
     avoid zero n h never = h
     avoid (suc k) n h never = (h.0, h.1, q_old n (never zero) ∙ h.2, avoid k h.1 h.3 (λ j s. never (suc j) (h.1, h.2, s)))
 

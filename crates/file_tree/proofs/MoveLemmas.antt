@@ -1,22 +1,15 @@
 -- What a move leaves of a tree.
 use Rattle.std.proofs.Common.{◌≡◌, ℕ, zero, suc, ◌<◌, ◌≤◌, Bool, true, false, cond, not, ◌&&◌, eqb, List, Ok, Err, Option, Some, None, refl, sym, ap, subst, ◌∙◌, inl, inr, arith, eq-eqb}
-use Rattle.std.specs.Cmp.{nat_cmp_total}
-use Rattle.std.specs.FinMap.{get, remove, len, nat_cmp-IsAntisymmetric}
+use Rattle.finite_maps.proofs.Maps.{get, remove, len, nat_cmp_total, nat_cmp-IsAntisymmetric, get-remove_other, len_positive, len-remove_there}
+use Rattle.finite_maps.proofs.Options.{none_never, same_found}
 use Rattle.std.specs.List.{list_any}
 use Rattle.std.proofs.lemmas.Bool.{false≢true, or_left, or_right}
-use Rattle.file_tree.specs.FileTree.{NodeMap, root, parent_of, settled, linked_in, unlinked, named, forgotten}
-use Rattle.file_tree.specs.Walk.{and_then, content_at}
-use Rattle.file_tree.specs.Names.{is_dir, is_node, may_replace, may_replace_at, has_no_names, removed, moved, replacing, up_from, above, is_within}
-use Rattle.file_tree.specs.Trees.{Leads, target, target_of, is_dir_node, IsName, Climbs, AreLinks, IsTree}
-use Rattle.file_tree.proofs.Links.{same_number, IsPlace, none_never, same_found, climbs_once, root_stays, with_moved, Steps}
+use Rattle.file_tree.specs.Prelude.{NodeMap, root, parent_of, settled, linked_in, unlinked, named, forgotten, and_then, content_at, is_dir, is_node, may_replace, may_replace_at, has_no_names, removed, moved, replacing, up_from, above, is_within, Leads, target, target_of, is_dir_node, IsName, Climbs, AreLinks, IsTree, is_linked, parent_of_node, Notdir, Isdir, Notempty, Node}
+use Rattle.file_tree.proofs.Links.{same_number, IsPlace, climbs_once, root_stays, with_moved, Ascends}
 use Rattle.file_tree.proofs.Ends.{then_ok, content_found}
 use Rattle.file_tree.proofs.TreeLemmas.{linked_up, there, leads_is, leads_to, named_set, forgotten_set, put_parent, unlinked_set, no_names_in, gone_of}
 use Rattle.file_tree.proofs.WalkLemmas.{apart}
-use Rattle.tree_nodes.proofs.MapLemmas.{taken_off, len_some, len_taken}
 use Rattle.tree_nodes.proofs.NodeLemmas.{changed_there}
-use Rattle.tree_nodes.specs.Nodes.{is_linked, parent_of_node}
-use Rattle.wx_types.specs.declared.errors.Errno.TheVariants.{Notdir, Isdir, Notempty}
-use Rattle.tree_nodes.specs.declared.node.Node.{Node}
 
 -- ---- a directory is not below a node
 
@@ -24,28 +17,28 @@ shift : (nodes : NodeMap) (n k : ℕ) → Climbs (parent_of nodes) k n → (j x 
 shift nodes n k at zero x lt c = c
 shift nodes n k at (suc j) x lt c =
     let other : x ≡ n → ⊥ = λ e. absurd (let same : suc j ≡ k = climbs_once (parent_of nodes) (suc j) k n (subst (Climbs (parent_of nodes) (suc j)) e c) at in let never : ⊥ = omega (arith, same, lt) in never) in
-    (c.0, c.1, ap parent_of_node (taken_off nat_cmp_total nat_cmp-IsAntisymmetric nodes n x other) ∙ c.2, shift nodes n k at j c.1 (omega (arith, lt)) c.3)
+    (c.0, c.1, ap parent_of_node (get-remove_other nat_cmp_total nat_cmp-IsAntisymmetric nodes n x other) ∙ c.2, shift nodes n k at j c.1 (omega (arith, lt)) c.3)
 
 -- fewer steps lead up to the root than there are nodes
 depth : (k n : ℕ) (nodes : NodeMap) (top : Node) → get nodes root ≡ Some top → Climbs (parent_of nodes) k n → k < len nodes
-depth zero n nodes top is c = len_some nat_cmp_total nat_cmp-IsAntisymmetric nodes root top is
+depth zero n nodes top is c = len_positive nat_cmp_total nodes root top is
 depth (suc k) n nodes top is c =
     let v = there nodes n c.1 c.2 in
-    let top-stays : get (remove nodes n) root ≡ Some top = taken_off nat_cmp_total nat_cmp-IsAntisymmetric nodes n root (λ e. c.0 (sym e)) ∙ is in
+    let top-stays : get (remove nodes n) root ≡ Some top = get-remove_other nat_cmp_total nat_cmp-IsAntisymmetric nodes n root (λ e. c.0 (sym e)) ∙ is in
     let rest = depth k c.1 (remove nodes n) top top-stays (shift nodes n (suc k) c k c.1 (omega arith) c.3) in
-    omega (arith, rest, len_taken nat_cmp_total nat_cmp-IsAntisymmetric nodes n v.0 v.1)
+    omega (arith, rest, len-remove_there nat_cmp_total nodes n v.0 v.1)
 
 module _ (nodes : NodeMap) (links : AreLinks (parent_of nodes) (target nodes)) (number : ℕ) (below : number ≡ root → ⊥) where
-  found : (m k n j : ℕ) → Climbs (parent_of nodes) k n → k < m → Steps (parent_of nodes) j n number → list_any (λ x. eqb x number) (up_from m nodes (Some n)) ≡ true
+  found : (m k n j : ℕ) → Climbs (parent_of nodes) k n → k < m → Ascends (parent_of nodes) j n number → list_any (λ x. eqb x number) (up_from m nodes (Some n)) ≡ true
   found zero k n j c lt s = absurd (omega (arith, lt))
   found (suc m) zero n j c lt s = absurd (below (root_stays (parent_of nodes) (target nodes) links number j n c s))
   found (suc m) (suc k) n zero c lt s = or_left (eqb n number) _ (eq-eqb n number s)
   found (suc m) (suc k) n (suc j) c lt s =
       let up : above nodes n ≡ Some c.1 = ap (λ b. cond b None (parent_of nodes n)) (apart n root c.0) ∙ c.2 in
-      let rest = found m k c.1 j c.3 (omega (arith, lt)) (subst (λ d. Steps (parent_of nodes) j d number) (same_found (parent_of nodes n) s.0 c.1 s.1 c.2) s.2) in
+      let rest = found m k c.1 j c.3 (omega (arith, lt)) (subst (λ d. Ascends (parent_of nodes) j d number) (same_found (parent_of nodes n) s.0 c.1 s.1 c.2) s.2) in
       or_right (eqb n number) _ (subst (λ o. list_any (λ x. eqb x number) (up_from m nodes o) ≡ true) (sym up) rest)
 
-  pub not_within : (dir up : ℕ) → parent_of nodes dir ≡ Some up → is_within nodes dir number ≡ false → (j : ℕ) → Steps (parent_of nodes) j dir number → ⊥
+  pub not_within : (dir up : ℕ) → parent_of nodes dir ≡ Some up → is_within nodes dir number ≡ false → (j : ℕ) → Ascends (parent_of nodes) j dir number → ⊥
   not_within dir up linked outside j s =
       let c = links.climbs dir up linked in
       let top = there nodes root root links.top in
@@ -102,9 +95,9 @@ tree_with_moved nodes next number dir name new_dir up new_name tree at leads lin
       numbers = tree.numbers;
     }
 
-steps_from : (p q : ℕ → Option ℕ) → ((n d : ℕ) → q n ≡ Some d → p n ≡ Some d) → (j a b : ℕ) → Steps q j a b → Steps p j a b
-steps_from p q h zero a b s = s
-steps_from p q h (suc j) a b s = (s.0, h a s.0 s.1, steps_from p q h j s.0 b s.2)
+ascends_from : (p q : ℕ → Option ℕ) → ((n d : ℕ) → q n ≡ Some d → p n ≡ Some d) → (j a b : ℕ) → Ascends q j a b → Ascends p j a b
+ascends_from p q h zero a b s = s
+ascends_from p q h (suc j) a b s = (s.0, h a s.0 s.1, ascends_from p q h j s.0 b s.2)
 
 -- the same where the new name led to another node, which has no names
 pub tree_with_replaced : (nodes : NodeMap) (next number dir : ℕ) (name : List ℕ) (new_dir up : ℕ) (new_name : List ℕ) (other : ℕ) (old : Node) → IsTree nodes next → target nodes dir name ≡ Some number → Leads nodes new_dir new_name (Some other) → parent_of nodes new_dir ≡ Some up → IsName new_name
@@ -141,7 +134,7 @@ tree_with_replaced nodes next number dir name new_dir up new_name other old tree
     let fewer = g.tree next tree in
     record {
       links = with_moved (parent_of less) (target less) fewer.links number dir new_dir up name new_name (g.other_names dir name differ ∙ at) g.no_name (g.off new_dir kept_dir ∙ linked) good
-          (λ j s. not_within nodes tree.links number named.below new_dir up linked outside j (steps_from (parent_of nodes) (parent_of less) up_from_less j new_dir number s))
+          (λ j s. not_within nodes tree.links number named.below new_dir up linked outside j (ascends_from (parent_of nodes) (parent_of less) up_from_less j new_dir number s))
           (parent_of new) (target new) (cut.off number (λ e. apart_from (sym e)) ∙ m.at) q_old (cut.leads new_dir new_name ∙ m.now) (cut.leads dir name ∙ m.gone)
           (λ d n old_place new_place. cut.leads d n ∙ m.others d n old_place new_place ∙ sym (g.other_names d n new_place));
       top = cut.dirs root (λ e. other_named.below (sym e)) ∙ m.dirs root (λ e. named.below (sym e)) ∙ tree.top;

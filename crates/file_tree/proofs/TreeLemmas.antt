@@ -1,37 +1,26 @@
 -- What the calls leave of a tree.
-use Rattle.std.proofs.Common.{◌≡◌, ℕ, zero, ◌+◌, ◌-◌, ◌<◌, ◌≤◌, true, false, cond, eqb, List, Option, Some, None, is_some, is_none, nat_cmp, refl, sym, ap, subst, ◌∙◌, inl, inr, arith, eqb-true}
-use Rattle.std.specs.Cmp.{nat_cmp_total}
-use Rattle.std.specs.Cmp.Lexicographic.{slice_cmp, nat_list_cmp_total}
-use Rattle.std.specs.FinMap.{get, insert, remove, len, empty, empty_of_len, get-empty, len-empty, nat_cmp-IsAntisymmetric, slice_cmp-IsAntisymmetric}
+use Rattle.std.proofs.Common.{◌≡◌, ℕ, zero, ◌+◌, ◌-◌, ◌<◌, ◌≤◌, true, false, cond, eqb, List, Option, Some, None, is_some, nat_cmp, refl, sym, ap, subst, ◌∙◌, inl, inr, arith, eqb-true}
+use Rattle.finite_maps.proofs.Maps.{get, insert, remove, len, empty, empty_of_len, get-empty, len-empty, slice_cmp, nat_cmp_total, nat_cmp-IsAntisymmetric, nat_list_cmp_total, nat_list_cmp-IsAntisymmetric, get-insert_same, get-insert_other, get-remove_same, get-remove_other, len-insert_there, len-insert_new, len-remove_there}
+use Rattle.finite_maps.proofs.Options.{none_never, same_found, some_from, none_from, not_some}
 use Rattle.std.proofs.lemmas.Bool.{false≢true}
-use Rattle.file_tree.specs.FileTree.{NodeMap, root, new_node, parent_of, most_nodes, last_number, changed, settled, unlinked, let_go, with_change, named, forgotten}
-use Rattle.file_tree.specs.Names.{is_dir, has_no_names, removed}
-use Rattle.file_tree.specs.Trees.{Leads, target, target_of, target_in, is_dir_node, IsName, IsTree}
-use Rattle.file_tree.proofs.Links.{same_number, IsPlace, none_never, same_links, unlinked_empty, with_new, without_name}
-use Rattle.tree_nodes.proofs.MapLemmas.{put_at, put_off, taken_at, taken_off, len_put, len_new, len_taken}
+use Rattle.file_tree.specs.Prelude.{NodeMap, root, new_node, parent_of, most_nodes, last_number, changed, settled, unlinked, let_go, with_change, named, forgotten, is_dir, has_no_names, removed, Leads, target, target_of, target_in, is_dir_node, IsName, IsTree, NameMap, Content, File, Dir, Node}
+use Rattle.file_tree.proofs.Links.{same_number, IsPlace, same_links, unlinked_empty, with_new, without_name}
 use Rattle.tree_nodes.proofs.NodeLemmas.{changed_there}
-use Rattle.tree_nodes.specs.Names.{NameMap}
 use Rattle.tree_nodes.specs.Nodes.{is_linked, is_linked_node, resizing, writing, replaced, kept, kept_if_there, parent_of_node, is_free, lacks_name, lacks_name_at, naming, forgetting}
-use Rattle.tree_nodes.specs.declared.node.Content.{Content}
-use Rattle.tree_nodes.specs.declared.node.Content.TheVariants.{File, Dir}
-use Rattle.tree_nodes.specs.declared.node.Node.{Node}
 
 -- ---- one node of the map
 
 node_at : (nodes : NodeMap) (k : ℕ) (v : Node) → get (insert nodes k v) k ≡ Some v
-node_at = put_at nat_cmp_total nat_cmp-IsAntisymmetric
+node_at = get-insert_same nat_cmp_total
 
 node_off : (nodes : NodeMap) (k : ℕ) (v : Node) (q : ℕ) → (q ≡ k → ⊥) → get (insert nodes k v) q ≡ get nodes q
-node_off = put_off nat_cmp_total nat_cmp-IsAntisymmetric
+node_off = get-insert_other nat_cmp_total nat_cmp-IsAntisymmetric
 
 name_at : (names : NameMap) (k : List ℕ) (v : ℕ) → get (insert names k v) k ≡ Some v
-name_at = put_at nat_list_cmp_total (slice_cmp-IsAntisymmetric nat_cmp-IsAntisymmetric)
+name_at = get-insert_same nat_list_cmp_total
 
 name_off : (names : NameMap) (k : List ℕ) (v : ℕ) (q : List ℕ) → (q ≡ k → ⊥) → get (insert names k v) q ≡ get names q
-name_off = put_off nat_list_cmp_total (slice_cmp-IsAntisymmetric nat_cmp-IsAntisymmetric)
-
-missing : (o : Option Node) (v : Node) → o ≡ None → o ≡ Some v → ⊥
-missing o v n s = cc
+name_off = get-insert_other nat_list_cmp_total nat_list_cmp-IsAntisymmetric
 
 -- a node that has a parent is there
 pub there : (nodes : NodeMap) (k dir : ℕ) → parent_of nodes k ≡ Some dir → (v : Node) × (get nodes k ≡ Some v) × (v.parent ≡ Some dir)
@@ -62,13 +51,9 @@ leads_to nodes dir number name e = found (get nodes dir) refl e
 pub leads_nowhere : (nodes : NodeMap) (dir : ℕ) (name : List ℕ) → is_free nodes dir name ≡ true → Leads nodes dir name None
 leads_nowhere nodes dir name free = found (get nodes dir) refl free
   where
-    none : (o : Option ℕ) → is_none o ≡ true → o ≡ None
-    none None e = refl
-    none (Some x) e = absurd (false≢true e)
-
     some : (content : Content) → lacks_name name content ≡ true → (is_dir content ≡ true) × (target_in content name ≡ None)
     some (File bytes) e = absurd (false≢true e)
-    some (Dir names) e = (refl, none (get names name) e)
+    some (Dir names) e = (refl, none_from (get names name) e)
 
     found : (o : Option Node) → get nodes dir ≡ o → lacks_name_at name o ≡ true → Leads nodes dir name None
     found None is e = absurd (false≢true e)
@@ -130,8 +115,8 @@ module _ (nodes : NodeMap) (dir : ℕ) (name : List ℕ) (was : Option ℕ) (lea
     at = ap (λ x. target_of x name) (node_at nodes dir v) ∙ ap (λ c. target_in c name) content ∙ at;
     off = set_off;
     dirs = set_dirs;
-    len = len_put nat_cmp_total nat_cmp-IsAntisymmetric nodes dir v leads.node leads.there;
-    unused = λ q none. node_off nodes dir v q (λ e. missing (get nodes q) leads.node none (ap (get nodes) e ∙ leads.there)) ∙ none;
+    len = len-insert_there nat_cmp_total nodes dir v leads.node leads.there;
+    unused = λ q none. node_off nodes dir v q (λ e. none_never (get nodes q) leads.node none (ap (get nodes) e ∙ leads.there)) ∙ none;
   }
 
 -- the directory's name leads to the node
@@ -146,7 +131,7 @@ pub forgotten_set : (nodes : NodeMap) (dir : ℕ) (name : List ℕ) (was : Optio
 forgotten_set nodes dir name was leads =
     subst (λ m. NameSet nodes m dir name None) (sym (changed_there nodes dir (with_change (forgetting name)) leads.node leads.there))
     (set_name nodes dir name was leads (remove leads.names name) None
-    (taken_at nat_list_cmp_total (slice_cmp-IsAntisymmetric nat_cmp-IsAntisymmetric) leads.names name) (taken_off nat_list_cmp_total (slice_cmp-IsAntisymmetric nat_cmp-IsAntisymmetric) leads.names name)
+    (get-remove_same nat_list_cmp_total leads.names name) (get-remove_other nat_list_cmp_total nat_list_cmp-IsAntisymmetric leads.names name)
     (with_change (forgetting name) leads.node) refl (ap (forgetting name) leads.content))
 
 -- the node put back with the same names, under a parent
@@ -160,15 +145,15 @@ put_parent nodes k old v is same = record {
         | inr m ↦ ap (λ x. target_of x n) (node_off nodes k v d m)
       ];
   dirs = λ q n. ap is_dir_node (node_off nodes k v q n);
-  len = omega (arith, len_put nat_cmp_total nat_cmp-IsAntisymmetric nodes k v old is);
-  unused = λ q none. node_off nodes k v q (λ e. missing (get nodes q) old none (ap (get nodes) e ∙ is)) ∙ none;
+  len = omega (arith, len-insert_there nat_cmp_total nodes k v old is);
+  unused = λ q none. node_off nodes k v q (λ e. none_never (get nodes q) old none (ap (get nodes) e ∙ is)) ∙ none;
 }
 
 -- the node taken out, where it has no names
 pub take_node : (nodes : NodeMap) (k : ℕ) (old : Node) → get nodes k ≡ Some old → ((n : List ℕ) → target nodes k n ≡ None) → ParentSet nodes (remove nodes k) k None
 take_node nodes k old is empty =
-    let at : get (remove nodes k) k ≡ None = taken_at nat_cmp_total nat_cmp-IsAntisymmetric nodes k in
-    let off : (q : ℕ) → (q ≡ k → ⊥) → get (remove nodes k) q ≡ get nodes q = taken_off nat_cmp_total nat_cmp-IsAntisymmetric nodes k in
+    let at : get (remove nodes k) k ≡ None = get-remove_same nat_cmp_total nodes k in
+    let off : (q : ℕ) → (q ≡ k → ⊥) → get (remove nodes k) q ≡ get nodes q = get-remove_other nat_cmp_total nat_cmp-IsAntisymmetric nodes k in
     record {
       at = ap parent_of_node at;
       off = λ q n. ap parent_of_node (off q n);
@@ -178,10 +163,10 @@ take_node nodes k old is empty =
             | inr m ↦ ap (λ x. target_of x n) (off d m)
           ];
       dirs = λ q n. ap is_dir_node (off q n);
-      len = omega (arith, len_taken nat_cmp_total nat_cmp-IsAntisymmetric nodes k old is);
+      len = omega (arith, len-remove_there nat_cmp_total nodes k old is);
       unused = λ q none.
           elim (same_number q k) [
-            | inl e ↦ absurd (missing (get nodes q) old none (ap (get nodes) e ∙ is))
+            | inl e ↦ absurd (none_never (get nodes q) old none (ap (get nodes) e ∙ is))
             | inr n ↦ off q n ∙ none
           ];
     }
@@ -245,10 +230,6 @@ changed_same nodes k change parent same dirs =
       | Some old ↦ λ is. put_same nodes k old (change old) is (parent old is) (same old) (dirs old)
     ] refl
 
-pub none_from : (o : Option ℕ) → is_some o ≡ false → o ≡ None
-none_from None e = refl
-none_from (Some x) e = absurd (false≢true (sym e))
-
 -- a node that nothing names and nothing holds goes
 pub let_go_same : (nodes : NodeMap) (next k : ℕ) → IsTree nodes next → SameLinks nodes (settled nodes k let_go)
 let_go_same nodes next k tree =
@@ -276,7 +257,7 @@ let_go_same nodes next k tree =
     node old is =
         elim (is_some old.parent) as (λ b. is_some old.parent ≡ b → SameLinks nodes (cond b (insert nodes k (let_go old)) (cond (eqb (old.holds - 1) 0) (remove nodes k) (insert nodes k (let_go old))))) [
           | true ↦ λ e. stays old is
-          | false ↦ λ e. elim (eqb (old.holds - 1) 0) as (λ b. SameLinks nodes (cond b (remove nodes k) (insert nodes k (let_go old)))) [ true ↦ gone old is (none_from old.parent e) | false ↦ stays old is ]
+          | false ↦ λ e. elim (eqb (old.holds - 1) 0) as (λ b. SameLinks nodes (cond b (remove nodes k) (insert nodes k (let_go old)))) [ true ↦ gone old is (not_some old.parent e) | false ↦ stays old is ]
         ] refl
 
 -- ---- a new node
@@ -302,7 +283,7 @@ tree_with_new nodes next dir up name content tree linked free good empty room nu
       links = with_new (parent_of nodes) (target nodes) tree.links next dir up name (ap parent_of_node fresh) linked good (leads_is nodes dir name None leads)
           (parent_of new) (target new) (ap parent_of_node at) (λ q n. ap parent_of_node (off q n) ∙ set.parent q) (leads_same dir name ∙ set.at) (λ d n other. leads_same d n ∙ set.off d n other);
       top = ap is_dir_node (off root root_off) ∙ set.dirs root ∙ tree.top;
-      most = omega (arith, len_new nat_cmp_total nat_cmp-IsAntisymmetric mid next (new_node dir content) fresh_mid, set.len, room);
+      most = omega (arith, len-insert_new nat_cmp_total mid next (new_node dir content) fresh_mid, set.len, room);
       unused = λ q le. off q (λ e. above q le e) ∙ set.unused q (tree.unused q (omega (arith, le)));
       numbers = omega (arith, number);
     }
@@ -378,7 +359,7 @@ root_tree =
         climbs = λ n d e. elim (same_number n root) [ inl is ↦ (zero, is) | inr o ↦ absurd (no_parent n d e o) ];
       };
       top = ap is_dir_node at;
-      most = omega (arith, len_new nat_cmp_total nat_cmp-IsAntisymmetric empty root (new_node root (Dir empty)) (get-empty nat_cmp root), len-empty nat_cmp Node);
+      most = omega (arith, len-insert_new nat_cmp_total empty root (new_node root (Dir empty)) (get-empty nat_cmp root), len-empty nat_cmp Node);
       unused = λ q le. off q (λ e. above q le e);
       numbers = omega arith;
     }
@@ -391,16 +372,12 @@ root_tree =
 pub linked_up : (nodes : NodeMap) (k : ℕ) → is_linked nodes k ≡ true → (up : ℕ) × (parent_of nodes k ≡ Some up)
 linked_up nodes k e = found (get nodes k) refl e
   where
-    some : (o : Option ℕ) → is_some o ≡ true → (up : ℕ) × (o ≡ Some up)
-    some None e = absurd (false≢true e)
-    some (Some up) e = (up, refl)
-
     found : (o : Option Node) → get nodes k ≡ o → is_linked_node o ≡ true → (up : ℕ) × (parent_of nodes k ≡ Some up)
     found None is e = absurd (false≢true e)
-    found (Some v) is e = let u = some v.parent e in (u.0, ap parent_of_node is ∙ u.1)
+    found (Some v) is e = let u = some_from v.parent e in (u.0, ap parent_of_node is ∙ u.1)
 
 pub same_parent : (o : Option Node) (a b : Node) → o ≡ Some a → o ≡ Some b → a.parent ≡ b.parent
-same_parent o a b x y = let same : a ≡ b = let f = sym x ∙ y in cc in ap (λ (v : Node). v.parent) same
+same_parent o a b x y = ap (λ (v : Node). v.parent) (same_found o a b x y)
 
 pub file_has_none : (content : Content) → is_dir content ≡ false → has_no_names content ≡ true
 file_has_none (File bytes) e = refl

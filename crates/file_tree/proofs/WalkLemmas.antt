@@ -3,11 +3,7 @@ use Rattle.std.proofs.Common.{◌≡◌, ℕ, zero, suc, ◌+◌, ◌-◌, ◌<�
 use Rattle.std.proofs.lemmas.Bool.Decides.{eqb_tells}
 use Rattle.std.specs.List.{last_or, list_any}
 use Rattle.std.specs.Option.{ok_or, unwrap_or}
-use Rattle.file_tree.specs.FileTree.{NodeMap}
-use Rattle.file_tree.specs.Names.{up_from, above}
-use Rattle.file_tree.specs.Walk.{and_then, walk_on, step}
-use Rattle.file_tree.specs.declared.place.Place.{Place}
-use Rattle.wx_types.specs.declared.errors.Errno.TheVariants.{Noent}
+use Rattle.file_tree.specs.Prelude.{NodeMap, up_from, above, and_then, walk_on, step, Place, Noent}
 
 -- a component that follows one that names nothing
 pub walk_stops : (nodes : NodeMap) (place : Place) (names : List (List ℕ)) → place.node ≡ None → 0 < length names → walk_on nodes place names ≡ Err Noent

@@ -5,3 +5,4 @@ pub mod Listings
 pub mod Names
 pub mod Walk
 pub mod Trees
+pub mod Prelude

@@ -110,7 +110,7 @@ pub fn is_within(nodes: &Nodes, dir: u32, number: u32) -> bool
     false
 }
 
-// Whether it is a directory.
+/// Whether it is a directory.
 pub fn is_dir(content: &Content) -> bool
     ensures { result ≡ spec.is_dir content.now }
 {
@@ -120,7 +120,7 @@ pub fn is_dir(content: &Content) -> bool
     }
 }
 
-// Whether it is no directory with entries.
+/// Whether it is no directory with entries.
 pub fn has_no_names(content: &Content) -> bool
     ensures { result ≡ spec.has_no_names content.now }
 {

@@ -18,7 +18,7 @@ fn kind_at(nodes: &Nodes, number: u32) -> NodeKind
     }
 }
 
-/// A directory's names with their nodes' kinds. `AllocError` is want of memory and nothing else.
+/// A directory's names with their nodes' kinds. `AllocError` means out of memory and nothing else.
 pub fn listing_of(
     alloc: Global,
     nodes: &Nodes,

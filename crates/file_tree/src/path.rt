@@ -44,7 +44,7 @@ fn turned(mut out: Vec<u8>) -> Result<Vec<u8>, AllocError>
     Ok(out)
 }
 
-/// The absolute path of a node, a slash before each name. `AllocError` is want of memory and nothing else.
+/// The absolute path of a node, a slash before each name. `AllocError` means out of memory and nothing else.
 pub fn path_bytes(alloc: Global, nodes: &Nodes, number: u32) -> Result<Vec<u8>, AllocError>
     ensures { IfOk result (λ path. path.items ≡ spec.or_slash (spec.path_down (len nodes.now) nodes.now number)) }
 {

@@ -35,7 +35,7 @@ const MOST_NODES: usize = 16_384;
 /// parent, at the root to the root, and is `Noent` in a removed directory. Where the path must name a
 /// directory and names a file, the walk is `Notdir`. A node number that names no node is `Noent`.
 ///
-/// After a refusal, and after want of memory, the tree is unchanged.
+/// After a refusal, and after out of memory, the tree is unchanged.
 #[derive(Drop)]
 pub struct Tree {
     nodes: Nodes,
@@ -56,7 +56,7 @@ impl Model for Tree {
 }
 
 impl Tree {
-    /// The root alone, an empty directory with the number 1. `AllocError` is want of memory and
+    /// The root alone, an empty directory with the number 1. `AllocError` is out of memory and
     /// nothing else.
     pub fn new(alloc: Global) -> Result<Tree, AllocError>
         ensures { IfOk result (λ tree. tree ≡ spec.only_root) }
@@ -106,7 +106,7 @@ impl Tree {
 
     /// Makes an empty file, and gives its number. The refusals after the walk, in their order: `Exist`;
     /// `Noent` in a removed directory; `Isdir` where the path must name a directory; `Nospc` where there
-    /// are 16,384 nodes or no number up to 4,294,967,295 is left. `Memory` is want of memory.
+    /// are 16,384 nodes or no number up to 4,294,967,295 is left. `Memory` is out of memory.
     pub fn create(&mut self, alloc: Global, from: u32, path: &Parts<'_>) -> Result<u32, Refusal>
         ensures { Gives (create self.old from path.now) self.old self.new result }
     {
@@ -116,7 +116,7 @@ impl Tree {
     }
 
     /// Makes an empty directory, and gives its number. The refusals after the walk, in their order:
-    /// `Exist`; `Noent` in a removed directory; `Nospc` as for `create`. `Memory` is want of memory.
+    /// `Exist`; `Noent` in a removed directory; `Nospc` as for `create`. `Memory` is out of memory.
     pub fn mkdir(&mut self, alloc: Global, from: u32, path: &Parts<'_>) -> Result<u32, Refusal>
         ensures { Gives (mkdir self.old from path.now) self.old self.new result }
     {
@@ -172,7 +172,7 @@ impl Tree {
     /// changed where both name one node; `Inval` where a directory would go into itself or below;
     /// `Notdir` where the new path names a file and the old one a directory; `Isdir` where it is the
     /// other way round; `Notempty` where the new path names a directory with entries; else the node
-    /// moves, and what the new path named is removed. `Memory` is want of memory.
+    /// moves, and what the new path named is removed. `Memory` is out of memory.
     pub fn rename(
         &mut self,
         alloc: Global,
@@ -232,7 +232,7 @@ impl Tree {
 
     /// Cuts the file off at `size` bytes, or puts zeros behind its end up to there. The refusals, in
     /// their order: `Inval` for a directory; `Fbig` where the size is more than 67,108,864; `Nospc`
-    /// where all files would have more than that. `Memory` is want of memory.
+    /// where all files would have more than that. `Memory` is out of memory.
     pub fn set_size(&mut self, node: u32, size: u64) -> Result<(), Refusal>
         ensures { Leaves (set_size self.old node size) self.old self.new result }
     {
@@ -243,7 +243,7 @@ impl Tree {
     }
 
     /// A directory's names in the order of their bytes, with their nodes. `Notdir` comes for a file.
-    /// `Memory` is want of memory.
+    /// `Memory` is out of memory.
     pub fn list(&self, alloc: Global, node: u32) -> Result<Listing, Refusal>
         ensures { Tells (list self.now node) result }
     {
@@ -266,7 +266,7 @@ impl Tree {
     }
 
     /// The absolute path of the node, which may have more than 1,024 bytes where directories were moved. `Noent` comes where it
-    /// was removed. `Memory` is want of memory.
+    /// was removed. `Memory` is out of memory.
     pub fn path_of(&self, alloc: Global, node: u32) -> Result<Bytes, Refusal>
         ensures { Tells (path_of self.now node) result }
     {

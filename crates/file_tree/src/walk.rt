@@ -13,7 +13,7 @@ use wx_types::Errno;
 /// The number of the root.
 pub const ROOT: u32 = 1;
 
-// The content of a node; `Noent` where it isn't there.
+/// The content of a node; `Noent` where it isn't there.
 pub fn content_at(nodes: &Nodes, number: u32) -> Result<&Content, Errno>
     ensures { MatchResult result (λ content. spec.content_at nodes.now number ≡ Ok content.now) (λ error. spec.content_at nodes.now number ≡ Err error) }
 {
@@ -23,7 +23,7 @@ pub fn content_at(nodes: &Nodes, number: u32) -> Result<&Content, Errno>
     }
 }
 
-// The names of a directory; `Noent` where it isn't there, `Notdir` where it is a file.
+/// The names of a directory; `Noent` where it isn't there, `Notdir` where it is a file.
 pub fn names_at(nodes: &Nodes, number: u32) -> Result<&Names, Errno>
     ensures { MatchResult result (λ names. spec.names_at nodes.now number ≡ Ok names.now) (λ error. spec.names_at nodes.now number ≡ Err error) }
 {
@@ -33,7 +33,7 @@ pub fn names_at(nodes: &Nodes, number: u32) -> Result<&Names, Errno>
     }
 }
 
-// The directory that names a node, `None` where it was removed or isn't there.
+/// The directory that names a node, `None` where it was removed or isn't there.
 pub fn parent_of(nodes: &Nodes, number: u32) -> Option<u32>
     ensures { result ≡ tree.parent_of nodes.now number }
 {
@@ -43,7 +43,7 @@ pub fn parent_of(nodes: &Nodes, number: u32) -> Option<u32>
     }
 }
 
-// Whether a directory names the node, or it is the root.
+/// Whether a directory names the node, or it is the root.
 pub fn is_linked(nodes: &Nodes, number: u32) -> bool
     ensures { result ≡ tree.is_linked nodes.now number }
 {
@@ -93,7 +93,7 @@ fn walk_names(nodes: &Nodes, from: u32, path: &Parts<'_>) -> Result<Place, Errno
     Ok(place)
 }
 
-// The walk of a path: from the root where it is absolute, else from the directory `from`.
+/// The walk of a path: from the root where it is absolute, else from the directory `from`.
 pub fn walk(nodes: &Nodes, from: u32, path: &Parts<'_>) -> Result<Place, Errno>
     ensures place { result ≡ spec.walk nodes.now from path.now }
     ensures free { IfOk result (λ place. place.node ≡ None → is_free nodes.now place.dir (spec.last_name path.now) ≡ true) }
@@ -110,7 +110,7 @@ pub fn walk(nodes: &Nodes, from: u32, path: &Parts<'_>) -> Result<Place, Errno>
     Ok(place)
 }
 
-// The last component of a path, none where it has no component.
+/// The last component of a path, none where it has no component.
 pub fn last_name<'a>(path: &Parts<'a>) -> &'a [u8]
     ensures { result.now ≡ spec.last_name path.now }
 {
@@ -120,7 +120,7 @@ pub fn last_name<'a>(path: &Parts<'a>) -> &'a [u8]
     }
 }
 
-// Whether the path is the root, or its last component is `.` or `..`.
+/// Whether the path is the root, or its last component is `.` or `..`.
 pub fn names_no_entry(path: &Parts<'_>) -> bool
     ensures { result ≡ spec.names_no_entry path.now }
 {

@@ -1,21 +1,12 @@
 -- The counts of open ends after a description was opened, changed or closed.
-use Rattle.std.proofs.Common.{◌≡◌, ℕ, ◌+◌, ◌-◌, ◌<◌, ◌≤◌, Bool, true, false, cond, [], Option, Some, None, is_some, IsSome, IsSomeAnd, Result, Ok, Err, is_err, OnOk, ltb, refl, sym, ap, ◌∙◌, arith}
+use Rattle.std.proofs.Common.{◌≡◌, ℕ, ◌+◌, ◌-◌, ◌<◌, ◌≤◌, Bool, true, false, cond, [], Option, Some, None, is_some, IsSomeAnd, Result, Ok, Err, is_err, OnOk, ltb, refl, sym, ap, ◌∙◌, arith}
 use Rattle.std.specs.Bool.{if◌then◌else◌}
 use Rattle.std.specs.Option.{option_map_or}
-use Rattle.std.specs.Ordering.{nat_cmp}
-use Rattle.std.specs.Cmp.{nat_cmp_total}
 use Rattle.std.specs.BTreeMap.{BTreeMap}
-use Rattle.std.specs.FinMap.{get, insert, remove, empty, values, len, len-empty, len-insert, len-remove}
 use Rattle.std.specs.List.{list_any}
 use Rattle.std.proofs.lemmas.Grind.{common_steps}
-use Rattle.std.proofs.lemmas.Bool.{false≢true}
-use Rattle.fd_table.specs.Totals.{total}
-use Rattle.fd_table.proofs.TotalLemmas.{total-empty, total-insert, total-remove, total-le_len, total-any, part-le_total}
-use Rattle.open_desc.specs.Codes.{Opens}
-use Rattle.open_desc.specs.Descriptions.{is_end}
-use Rattle.open_desc.specs.Ends.{count_of, end_weight, Counts, AreCounted}
-use Rattle.open_desc.specs.declared.description.Kind.{Kind}
-use Rattle.open_desc.specs.declared.description.Opened.{Opened}
+use Rattle.finite_maps.proofs.Maps.{nat_cmp-IsAntisymmetric, total-empty, total-insert, total-remove, total-le_len, total-any, part-le_total, nat_cmp, nat_cmp_total, get, insert, remove, empty, values, len, len-empty, len-insert, len-remove, total}
+use Rattle.open_desc.specs.Prelude.{Opens, is_end, count_of, end_weight, Counts, AreCounted, Kind, Opened}
 
 -- 1 for an end of the pipe
 abbrev weight : ℕ → Bool → Kind → ℕ
@@ -31,7 +22,7 @@ nothing opens id f e = ap (λ entry. option_map_or f entry 0) e
 Counts-changed : (opens : Opens) (counts : BTreeMap ℕ ℕ) (writing : Bool) (id : ℕ) (o v : Opened) → Counts counts opens writing → get opens id ≡ Some o → o.description.kind ≡ v.description.kind → Counts counts (insert opens id v) writing
 Counts-changed opens counts writing id o v counted e kind pipe =
     let same : end_weight pipe writing o ≡ end_weight pipe writing v = ap (weight pipe writing) kind in
-    omega (arith, counted pipe, total-insert (end_weight pipe writing) opens id v, part opens id (end_weight pipe writing) o e, same)
+    omega (arith, counted pipe, total-insert (end_weight pipe writing) nat_cmp_total opens id v, part opens id (end_weight pipe writing) o e, same)
 
 pub AreCounted-changed : (opens : Opens) (readers writers : BTreeMap ℕ ℕ) (id : ℕ) (o v : Opened) → AreCounted opens readers writers → get opens id ≡ Some o → o.description.kind ≡ v.description.kind → AreCounted (insert opens id v) readers writers
 AreCounted-changed opens readers writers id o v counted e kind = record {
@@ -42,7 +33,7 @@ AreCounted-changed opens readers writers id o v counted e kind = record {
 
 Counts-opened : (opens : Opens) (old new : BTreeMap ℕ ℕ) (writing : Bool) (id : ℕ) (v : Opened) → Counts old opens writing → get opens id ≡ None → ((q : ℕ) → count_of new q ≡ count_of old q + weight q writing v.description.kind) → Counts new (insert opens id v) writing
 Counts-opened opens old new writing id v counted e more pipe =
-    omega (arith, counted pipe, more pipe, total-insert (end_weight pipe writing) opens id v, nothing opens id (end_weight pipe writing) e)
+    omega (arith, counted pipe, more pipe, total-insert (end_weight pipe writing) nat_cmp_total opens id v, nothing opens id (end_weight pipe writing) e)
 
 pub AreCounted-opened : (opens : Opens) (readers writers readers' writers' : BTreeMap ℕ ℕ) (id : ℕ) (v : Opened) → AreCounted opens readers writers → get opens id ≡ None → len opens < 1024 → ((q : ℕ) → count_of readers' q ≡ count_of readers q + weight q false v.description.kind) → ((q : ℕ) → count_of writers' q ≡ count_of writers q + weight q true v.description.kind) → AreCounted (insert opens id v) readers' writers'
 AreCounted-opened opens readers writers readers' writers' id v counted e room more_readers more_writers = record {
@@ -53,7 +44,7 @@ AreCounted-opened opens readers writers readers' writers' id v counted e room mo
 
 Counts-closed : (opens : Opens) (old new : BTreeMap ℕ ℕ) (writing : Bool) (id : ℕ) (o : Opened) → Counts old opens writing → get opens id ≡ Some o → ((q : ℕ) → count_of new q + weight q writing o.description.kind ≡ count_of old q) → Counts new (remove opens id) writing
 Counts-closed opens old new writing id o counted e fewer pipe =
-    omega (arith, counted pipe, fewer pipe, total-remove (end_weight pipe writing) opens id, part opens id (end_weight pipe writing) o e)
+    omega (arith, counted pipe, fewer pipe, total-remove (end_weight pipe writing) nat_cmp_total nat_cmp-IsAntisymmetric opens id, part opens id (end_weight pipe writing) o e)
 
 pub AreCounted-closed : (opens : Opens) (readers writers readers' writers' : BTreeMap ℕ ℕ) (id : ℕ) (o : Opened) → AreCounted opens readers writers → get opens id ≡ Some o → ((q : ℕ) → count_of readers' q + weight q false o.description.kind ≡ count_of readers q) → ((q : ℕ) → count_of writers' q + weight q true o.description.kind ≡ count_of writers q) → AreCounted (remove opens id) readers' writers'
 AreCounted-closed opens readers writers readers' writers' id o counted e fewer_readers fewer_writers = record {
@@ -65,7 +56,7 @@ AreCounted-closed opens readers writers readers' writers' id o counted e fewer_r
 -- an open end is counted
 pub counted_end : (opens : Opens) (counts : BTreeMap ℕ ℕ) (writing : Bool) (id : ℕ) (o : Opened) → Counts counts opens writing → get opens id ≡ Some o → (q : ℕ) → weight q writing o.description.kind ≤ count_of counts q
 counted_end opens counts writing id o counted e q =
-    omega (arith, counted q, part-le_total (end_weight q writing) opens id, part opens id (end_weight q writing) o e)
+    omega (arith, counted q, part-le_total (end_weight q writing) nat_cmp_total nat_cmp-IsAntisymmetric opens id, part opens id (end_weight q writing) o e)
 
 at_most_one : (b : Bool) → ◌≤◌ (if b then 1 else 0) 1
 at_most_one true = omega arith
@@ -84,7 +75,7 @@ AreCounted-none opens readers writers none no_readers no_writers = record {
 }
   where
     Counts-none : (counts : BTreeMap ℕ ℕ) (writing : Bool) → counts.entries ≡ [] → Counts counts opens writing
-    Counts-none counts writing e pipe = zero_of counts pipe e ∙ sym (ap (total (end_weight pipe writing)) none ∙ total-empty (end_weight pipe writing))
+    Counts-none counts writing e pipe = zero_of counts pipe e ∙ sym (ap (total (end_weight pipe writing)) none ∙ total-empty (end_weight pipe writing) nat_cmp)
       where
         zero_of : (counts : BTreeMap ℕ ℕ) (pipe : ℕ) → counts.entries ≡ [] → count_of counts pipe ≡ 0
         zero_of counts pipe e = grind (arith, common_steps)
@@ -97,13 +88,6 @@ end_left-counted opens counts writing counted pipe = ap (ltb 0) (counted pipe) �
 pub entry_of : (o : Option Opened) (kind : Kind) → IsSomeAnd o (λ x. x.description.kind ≡ kind) → (x : Opened) × (o ≡ Some x) × (x.description.kind ≡ kind)
 entry_of None kind p = absurd p
 entry_of (Some x) kind p = (x, refl, p)
-
-pub none_some : {X : Type 0} {x : X} → ◌≡◌ {A = Option X} None (Some x) → ⊥
-none_some e = cc
-
-pub some_of : (o : Option Opened) → IsSome o → (x : Opened) × (o ≡ Some x)
-some_of None p = absurd (false≢true p)
-some_of (Some x) p = (x, refl)
 
 pub on_ok : {X E P : Type 0} (r : Result X E) → is_err r ≡ false → OnOk r P → P
 on_ok (Ok x) e p = p

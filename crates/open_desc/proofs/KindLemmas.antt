@@ -1,18 +1,10 @@
 -- What is no pipe is read and written alike with a pipe at hand and without.
 use Rattle.std.proofs.Common.{◌≡◌, ℕ, List, [], Some, None, Result, Ok, Err, refl}
-use Rattle.wx_types.specs.declared.errors.Errno.{Errno}
+use Rattle.open_desc.specs.Prelude.{Errno, FileTree, read_at, count_read, filled, write_at, Descriptions, read_file, read_kind, Reads, start_of, write_file, write_kind, unwritten, left_by, Writes, Description, Kind, Input, Output, Error, File, Dir, PipeRead, PipeWrite}
 use Rattle.wx_types.specs.declared.errors.Refusal.{Refusal}
 use Rattle.wx_types.specs.declared.errors.Refusal.TheVariants.{Errno as refused, Memory}
 use Rattle.pipes.specs.declared.pipe.Pull.{Pull}
 use Rattle.pipes.specs.declared.pipe.Push.{Push}
-use Rattle.file_tree.specs.FileTree.{FileTree}
-use Rattle.file_tree.specs.Files.{read_at, count_read, filled, write_at}
-use Rattle.open_desc.specs.Descriptions.{Descriptions}
-use Rattle.open_desc.specs.Reading.{read_file, read_kind, Reads}
-use Rattle.open_desc.specs.Writing.{start_of, write_file, write_kind, unwritten, left_by, Writes}
-use Rattle.open_desc.specs.declared.description.Description.{Description}
-use Rattle.open_desc.specs.declared.description.Kind.{Kind}
-use Rattle.open_desc.specs.declared.description.Kind.TheVariants.{Input, Output, Error, File, Dir, PipeRead, PipeWrite}
 
 -- what is the same before and after stays
 stays : (result : Result Push Refusal) (held : List ℕ) → Some held ≡ left_by result (Some held) (Some held)

@@ -3,16 +3,11 @@ use Rattle.std.proofs.Common.{◌≡◌, ◌≢◌, ℕ, ◌+◌, ◌-◌, ◌<�
 use Rattle.std.specs.Bool.{if◌then◌else◌}
 use Rattle.std.specs.Option.{option_map_or}
 use Rattle.std.specs.List.{sum_by}
-use Rattle.std.specs.FinMap.{get, insert, remove}
 use Rattle.std.proofs.lemmas.Bool.{cases_eq}
 use Rattle.std.proofs.lemmas.Bool.Decides.{nat_tests}
 use Rattle.std.proofs.lemmas.List.Sums.{sum_by-cons}
-use Rattle.fd_table.proofs.PlaceLemmas.{get-insert_same, get-insert_other, get-remove_same, get-remove_other}
-use Rattle.open_desc.specs.Codes.{Opens}
-use Rattle.open_desc.specs.Descriptions.{Descriptions, references_of, after_open, referred, shared, after_share, is_last, released, after_release, with_opened}
-use Rattle.open_desc.specs.Processes.{all_shared, all_released}
-use Rattle.open_desc.specs.declared.description.Description.{Description}
-use Rattle.open_desc.specs.declared.description.Opened.{Opened}
+use Rattle.finite_maps.proofs.Maps.{nat_cmp_total, nat_cmp-IsAntisymmetric, get-insert_same, get-insert_other, get-remove_same, get-remove_other, get, insert, remove}
+use Rattle.open_desc.specs.Prelude.{Opens, Descriptions, references_of, after_open, referred, shared, after_share, is_last, released, after_release, with_opened, all_shared, all_released, Description, Opened}
 
 -- 1 where two ids are the same
 abbrev pub one : ℕ → ℕ → ℕ
@@ -34,16 +29,16 @@ refs_some : (opens : Opens) (q : ℕ) (o : Opened) → get opens q ≡ Some o �
 refs_some opens q o e = ap (λ (entry : Option Opened). option_map_or (λ o. o.references) entry 0) e
 
 refs_same : (opens : Opens) (id q : ℕ) (o : Opened) → q ≡ id → refs (insert opens id o) q ≡ o.references
-refs_same opens id q o e = ap (refs (insert opens id o)) e ∙ refs_some (insert opens id o) id o (get-insert_same opens id o)
+refs_same opens id q o e = ap (refs (insert opens id o)) e ∙ refs_some (insert opens id o) id o (get-insert_same nat_cmp_total opens id o)
 
 refs_other : (opens : Opens) (id q : ℕ) (o : Opened) → q ≢ id → refs (insert opens id o) q ≡ refs opens q
-refs_other opens id q o ne = ap (λ (entry : Option Opened). option_map_or (λ o. o.references) entry 0) (get-insert_other opens id o q ne)
+refs_other opens id q o ne = ap (λ (entry : Option Opened). option_map_or (λ o. o.references) entry 0) (get-insert_other nat_cmp_total nat_cmp-IsAntisymmetric opens id o q ne)
 
 refs_gone : (opens : Opens) (id q : ℕ) → q ≡ id → refs (remove opens id) q ≡ 0
-refs_gone opens id q e = ap (refs (remove opens id)) e ∙ refs_none (remove opens id) id (get-remove_same opens id)
+refs_gone opens id q e = ap (refs (remove opens id)) e ∙ refs_none (remove opens id) id (get-remove_same nat_cmp_total opens id)
 
 refs_kept : (opens : Opens) (id q : ℕ) → q ≢ id → refs (remove opens id) q ≡ refs opens q
-refs_kept opens id q ne = ap (λ (entry : Option Opened). option_map_or (λ o. o.references) entry 0) (get-remove_other opens id q ne)
+refs_kept opens id q ne = ap (λ (entry : Option Opened). option_map_or (λ o. o.references) entry 0) (get-remove_other nat_cmp_total nat_cmp-IsAntisymmetric opens id q ne)
 
 pub references-open : (descs : Descriptions) (id q : ℕ) (d : Description) → get descs.opens id ≡ None → references_of (after_open descs id d) q ≡ references_of descs q + one id q
 references-open descs id q d free = ⊎_elim
@@ -107,7 +102,7 @@ pub record AreReferred (descs : Descriptions) : Type 0 where
 referred_after : (opens : Opens) (id : ℕ) (v : Opened) → 0 < v.references → ((q : ℕ) (o : Opened) → get opens q ≡ Some o → 0 < o.references) → (q : ℕ) (o : Opened) → get (insert opens id v) q ≡ Some o → 0 < o.references
 referred_after opens id v positive each q o e = ⊎_elim
     (λ (same : q ≡ id). omega (arith, positive, sym (refs_some (insert opens id v) q o e) ∙ refs_same opens id q v same))
-    (λ (ne : q ≢ id). each q o (sym (get-insert_other opens id v q ne) ∙ e))
+    (λ (ne : q ≢ id). each q o (sym (get-insert_other nat_cmp_total nat_cmp-IsAntisymmetric opens id v q ne) ∙ e))
     (cases_eq q id)
 
 pub AreReferred-open : (descs : Descriptions) (id : ℕ) (d : Description) → AreReferred descs → AreReferred (after_open descs id d)
@@ -126,8 +121,8 @@ AreReferred-release descs id are = by_entry (get descs.opens id)
     last : (o : Opened) (b : Bool) → is_last o ≡ b → AreReferred (if b then record { opens = remove descs.opens id; next = descs.next } else with_opened descs id (referred o (o.references - 1)))
     last o true l = record {
       each = λ q v e. ⊎_elim
-          (λ (same : q ≡ id). let gone : None ≡ Some v = sym (ap (get (remove descs.opens id)) same ∙ get-remove_same descs.opens id) ∙ e in cc)
-          (λ (ne : q ≢ id). are.each q v (sym (get-remove_other descs.opens id q ne) ∙ e))
+          (λ (same : q ≡ id). let gone : None ≡ Some v = sym (ap (get (remove descs.opens id)) same ∙ get-remove_same nat_cmp_total descs.opens id) ∙ e in cc)
+          (λ (ne : q ≢ id). are.each q v (sym (get-remove_other nat_cmp_total nat_cmp-IsAntisymmetric descs.opens id q ne) ∙ e))
           (cases_eq q id);
     }
     last o false l =

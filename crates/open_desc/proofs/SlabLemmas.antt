@@ -2,23 +2,23 @@
 use Rattle.std.proofs.Common.{◌≡◌, ℕ, ◌+◌, ◌<◌, ◌≤◌, List, [], ◌∷◌, length, get_or, Option, Some, None, is_some, cond, refl, sym, ap, ◌∙◌, arith, ⊎_elim}
 use Rattle.std.proofs.Math.ListN.{set}
 use Rattle.std.specs.List.{count_by}
-use Rattle.std.specs.FinMap.{insert, remove, len, len-entries}
 use Rattle.std.proofs.lemmas.Bool.{cases_lt}
 use Rattle.std.proofs.lemmas.List.{get_or_past}
 use Rattle.std.proofs.lemmas.List.Sums.{sum_by-cons}
 use Rattle.slab.specs.Slab.{Slab, slab_len, Updates}
 use Rattle.fd_table.specs.Places.{by_place, placed_from}
-use Rattle.fd_table.proofs.PlaceLemmas.{get-by_place, entries-by_place, inserted, removed, by_place-put}
+use Rattle.fd_table.proofs.PlaceLemmas.{get-by_place, entries-by_place, by_place-put}
+use Rattle.finite_maps.proofs.Maps.{nat_cmp_total, nat_cmp-IsAntisymmetric, is_insert, is_remove, insert, remove, len, len-entries}
 
 module _ {X : Type 0} where
   pub by_place-updated : (old new : Slab X) (key : ℕ) (v : X) → Updates old new key (Some v) → by_place new.slots ≡ insert (by_place old.slots) key v
   by_place-updated old new key v u =
-      inserted _ _ key v (get-by_place new.slots key ∙ u.changed)
+      is_insert nat_cmp_total nat_cmp-IsAntisymmetric _ _ key v (get-by_place new.slots key ∙ u.changed)
       (λ q ne. get-by_place new.slots q ∙ u.others q ne ∙ sym (get-by_place old.slots q))
 
   pub by_place-emptied : (old new : Slab X) (key : ℕ) → Updates old new key None → by_place new.slots ≡ remove (by_place old.slots) key
   by_place-emptied old new key u =
-      removed _ _ key (get-by_place new.slots key ∙ u.changed)
+      is_remove nat_cmp_total nat_cmp-IsAntisymmetric _ _ key (get-by_place new.slots key ∙ u.changed)
       (λ q ne. get-by_place new.slots q ∙ u.others q ne ∙ sym (get-by_place old.slots q))
 
   -- a key that has a value is within the slots

@@ -1,17 +1,12 @@
 -- How many descriptors of a table name an id, after each call.
-use Rattle.std.proofs.Common.{◌≡◌, ◌≢◌, ℕ, zero, suc, ◌+◌, ◌-◌, Bool, true, false, cond, not, List, [], ◌∷◌, ◌++◌, map, Option, Some, None, is_some, refl, sym, ap, ◌∙◌, arith, add-one, append-nil}
+use Rattle.std.proofs.Common.{◌≡◌, ◌≢◌, ℕ, zero, suc, ◌+◌, Bool, true, false, cond, not, List, [], ◌∷◌, ◌++◌, map, Option, Some, None, is_some, refl, sym, ap, ◌∙◌, arith, add-one, append-nil}
 use Rattle.std.specs.Bool.{if◌then◌else◌}
 use Rattle.std.specs.Option.{option_map_or, option_and_then, option_to_list}
 use Rattle.std.specs.List.{find, range_with_len, sum_by}
-use Rattle.std.specs.FinMap.{get, insert, remove, values}
 use Rattle.std.proofs.lemmas.List.Sums.{sum_by-cons, sum_by_push}
-use Rattle.fd_table.specs.declared.table.Descriptor.{Descriptor}
-use Rattle.fd_table.specs.Table.{Table, descriptor, lowest_free, after_put, marked_id, marked_below, without_marked_below}
-use Rattle.fd_table.specs.Totals.{total}
+use Rattle.open_desc.specs.Prelude.{Descriptor, Table, descriptor, lowest_free, after_put, marked_id, marked_below, without_marked_below, names, names_in, ids_of}
 use Rattle.fd_table.proofs.ExecLemmas.{marked_below-zero, marked_below-more, without_marked_below-zero, without_marked_below-marked, without_marked_below-unmarked, get_at}
-use Rattle.fd_table.proofs.PlaceLemmas.{get-insert_other}
-use Rattle.fd_table.proofs.TotalLemmas.{total-insert, total-remove}
-use Rattle.open_desc.specs.Processes.{names, names_in, ids_of}
+use Rattle.finite_maps.proofs.Maps.{nat_cmp_total, nat_cmp-IsAntisymmetric, get-insert_other, total-insert, total-remove, get, insert, remove, values, total}
 use Rattle.open_desc.proofs.ReferenceLemmas.{one, times}
 
 -- what an entry adds to the count
@@ -39,15 +34,15 @@ pub names-put : (table : Table) (id q fd : ℕ) → lowest_free table ≡ Some f
 names-put table id q fd e =
     let after : after_put table id ≡ insert table fd (descriptor id false) = ap (λ o. option_map_or (λ k. insert table k (descriptor id false)) o table) e in
     let absent : part q (get table fd) ≡ 0 = ap (part q) (free_is_absent table fd e) in
-    omega (arith, ap (names_in q) after, total-insert (names q) table fd (descriptor id false), absent)
+    omega (arith, ap (names_in q) after, total-insert (names q) nat_cmp_total table fd (descriptor id false), absent)
 
 pub put-full : (table : Table) (id : ℕ) → lowest_free table ≡ None → after_put table id ≡ table
 put-full table id e = ap (λ o. option_map_or (λ k. insert table k (descriptor id false)) o table) e
 
 pub names-moved : (table : Table) (from to q : ℕ) (d : Descriptor) → get table from ≡ Some d → from ≢ to → names_in q (remove (insert table to d) from) + part q (get table to) ≡ names_in q table
 names-moved table from to q d e ne =
-    let at_from : part q (get (insert table to d) from) ≡ names q d = ap (part q) (get-insert_other table to d from ne ∙ e) in
-    omega (arith, at_from, total-remove (names q) (insert table to d) from, total-insert (names q) table to d)
+    let at_from : part q (get (insert table to d) from) ≡ names q d = ap (part q) (get-insert_other nat_cmp_total nat_cmp-IsAntisymmetric table to d from ne ∙ e) in
+    omega (arith, at_from, total-remove (names q) nat_cmp_total nat_cmp-IsAntisymmetric (insert table to d) from, total-insert (names q) nat_cmp_total table to d)
 
 pub times-ids : (q : ℕ) (table : Table) → times q (ids_of table) ≡ names_in q table
 unfolding total
@@ -75,7 +70,7 @@ names-exec_next table q n before (Some id) e =
     let ids : marked_below table (suc n) ≡ marked_below table n ++ id ∷ [] = ap (marked_below table) (sym (add-one n)) ∙ marked_below-more table n ∙ ap (λ o. marked_below table n ++ option_to_list o) e in
     let left : without_marked_below table (suc n) ≡ remove (without_marked_below table n) n = ap (without_marked_below table) (sym (add-one n)) ∙ without_marked_below-marked table n id e in
     let at_n : part q (get (without_marked_below table n) n) ≡ one id q = ap (part q) (get_at table n) ∙ part-marked (get table n) id q e in
-    omega (arith, before, ap (times q) ids, sum_by_push (λ i. one i q) (marked_below table n) id, ap (names_in q) left, total-remove (names q) (without_marked_below table n) n, at_n)
+    omega (arith, before, ap (times q) ids, sum_by_push (λ i. one i q) (marked_below table n) id, ap (names_in q) left, total-remove (names q) nat_cmp_total nat_cmp-IsAntisymmetric (without_marked_below table n) n, at_n)
 
 -- what is closed, and what is left
 pub names-exec : (table : Table) (q n : ℕ) → times q (marked_below table n) + names_in q (without_marked_below table n) ≡ names_in q table

@@ -3,7 +3,7 @@ use Rattle.std.specs.Prelude.{◌≡◌, ℕ, Bool, ◌≤◌, if◌then◌else�
 use Rattle.std.specs.Ordering.{nat_cmp}
 use Rattle.std.specs.BTreeMap.{BTreeMap, get}
 use Rattle.std.specs.FinMap.{len}
-use Rattle.fd_table.specs.Totals.{total}
+use Rattle.finite_maps.specs.Maps.{total}
 use Rattle.open_desc.specs.Codes.{Opens}
 use Rattle.open_desc.specs.Descriptions.{is_end}
 use Rattle.open_desc.specs.declared.description.Opened.{Opened}

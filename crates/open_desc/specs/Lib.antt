@@ -5,3 +5,4 @@ pub mod Offsets
 pub mod Processes
 pub mod Reading
 pub mod Writing
+pub mod Prelude

@@ -8,7 +8,7 @@ use Rattle.std.specs.FinMap.{FinMap, get, insert, remove, empty, values}
 use Rattle.wx_types.specs.declared.errors.Errno.{Errno}
 use Rattle.fd_table.specs.declared.table.Descriptor.{Descriptor}
 use Rattle.fd_table.specs.Table.{Table, lowest_free, after_put, dup_answer, after_dup, renumber_answer, after_renumber, close_answer, after_close, dropped_ids, after_exec}
-use Rattle.fd_table.specs.Totals.{total}
+use Rattle.finite_maps.specs.Maps.{total}
 use Rattle.open_desc.specs.Descriptions.{Descriptions, references_of, after_open, after_share, after_release, is_end, end_left}
 use Rattle.open_desc.specs.declared.description.Description.{Description}
 
@@ -34,25 +34,25 @@ names_end descs pipe writing d = option_map_or (λ o. is_end pipe writing o.desc
 abbrev pub some_names_end : Processes → ℕ → Bool → Bool
 some_names_end p pipe writing = list_any (λ table. list_any (names_end p.descs pipe writing) (values table)) (values p.tables)
 
--- what one whole step does
-pub data Step : Type 0 where
+-- one call with what follows it at once
+pub data Operation : Type 0 where
   -- a new process with an empty table
-  New : ℕ → Step
+  New : ℕ → Operation
   -- a process opens a description, to which this id was given, and puts it into its table, or releases
   -- it where the table is full
-  Open : ℕ → ℕ → Description → Step
+  Open : ℕ → ℕ → Description → Operation
   -- `dup`, with one more reference to the description
-  Dup : ℕ → ℕ → Step
+  Dup : ℕ → ℕ → Operation
   -- a renumbering, with a release of what is handed back
-  Renumber : ℕ → ℕ → ℕ → Step
+  Renumber : ℕ → ℕ → ℕ → Operation
   -- `close`, with a release
-  Close : ℕ → ℕ → Step
+  Close : ℕ → ℕ → Operation
   -- a fork, with one more reference for each descriptor of the child
-  Fork : ℕ → ℕ → Step
+  Fork : ℕ → ℕ → Operation
   -- an exec, with a release for each descriptor that it closes
-  Exec : ℕ → Step
+  Exec : ℕ → Operation
   -- the end of a process, with a release for each of its descriptors
-  End : ℕ → Step
+  End : ℕ → Operation
 
 -- a process's table, an empty one where it has none
 abbrev pub table_of : Processes → ℕ → Table
@@ -92,23 +92,23 @@ abbrev pub released_closed : Descriptions → Result ℕ Errno → Descriptions
 released_closed descs (Ok id) = after_release descs id
 released_closed descs (Err e) = descs
 
-abbrev pub after_step : Processes → Step → Processes
-after_step p (New pid) = with_table p pid empty p.descs
-after_step p (Open pid id description) =
+abbrev pub after_operation : Processes → Operation → Processes
+after_operation p (New pid) = with_table p pid empty p.descs
+after_operation p (Open pid id description) =
     with_table p pid (after_put (table_of p pid) id) (put_or_released (after_open p.descs id description) id (lowest_free (table_of p pid)))
-after_step p (Dup pid fd) =
+after_operation p (Dup pid fd) =
     with_table p pid (after_dup (table_of p pid) fd) (shared_where p.descs (get (table_of p pid) fd) (dup_answer (table_of p pid) fd))
-after_step p (Renumber pid from to) =
+after_operation p (Renumber pid from to) =
     with_table p pid (after_renumber (table_of p pid) from to) (released_displaced p.descs (renumber_answer (table_of p pid) from to))
-after_step p (Close pid fd) =
+after_operation p (Close pid fd) =
     with_table p pid (after_close (table_of p pid) fd) (released_closed p.descs (close_answer (table_of p pid) fd))
-after_step p (Fork parent child) = with_table p child (table_of p parent) (all_shared p.descs (ids_of (table_of p parent)))
-after_step p (Exec pid) = with_table p pid (after_exec (table_of p pid)) (all_released p.descs (dropped_ids (table_of p pid)))
-after_step p (End pid) = record { tables = remove p.tables pid; descs = all_released p.descs (ids_of (table_of p pid)) }
+after_operation p (Fork parent child) = with_table p child (table_of p parent) (all_shared p.descs (ids_of (table_of p parent)))
+after_operation p (Exec pid) = with_table p pid (after_exec (table_of p pid)) (all_released p.descs (dropped_ids (table_of p pid)))
+after_operation p (End pid) = record { tables = remove p.tables pid; descs = all_released p.descs (ids_of (table_of p pid)) }
 
--- when a step may come: its process has a table, a new process has none yet, and the id of a new
+-- when an operation may come: its process has a table, a new process has none yet, and the id of a new
 -- description was free
-abbrev pub MayCome : Processes → Step → Type 0
+abbrev pub MayCome : Processes → Operation → Type 0
 MayCome p (New pid) = get p.tables pid ≡ None
 MayCome p (Open pid id description) = IsSome (get p.tables pid) × (get p.descs.opens id ≡ None)
 MayCome p (Dup pid fd) = IsSome (get p.tables pid)
@@ -118,13 +118,13 @@ MayCome p (Fork parent child) = IsSome (get p.tables parent) × (get p.tables ch
 MayCome p (Exec pid) = IsSome (get p.tables pid)
 MayCome p (End pid) = IsSome (get p.tables pid)
 
-abbrev pub after_steps : Processes → List Step → Processes
-after_steps p [] = p
-after_steps p (step ∷ rest) = after_steps (after_step p step) rest
+abbrev pub after_operations : Processes → List Operation → Processes
+after_operations p [] = p
+after_operations p (operation ∷ rest) = after_operations (after_operation p operation) rest
 
-abbrev pub AllMayCome : Processes → List Step → Type 0
+abbrev pub AllMayCome : Processes → List Operation → Type 0
 AllMayCome p [] = Unit {0}
-AllMayCome p (step ∷ rest) = MayCome p step × AllMayCome (after_step p step) rest
+AllMayCome p (operation ∷ rest) = MayCome p operation × AllMayCome (after_operation p operation) rest
 
 -- each description has as many references as pairs name it, and an end of a pipe is left exactly where
 -- some descriptor names it
@@ -136,6 +136,6 @@ pub record CountsAgree (p : Processes) : Type 0 where
 abbrev pub no_processes : Descriptions → Processes
 no_processes descs = record { tables = empty; descs = descs }
 
--- so it is after whatever steps
+-- so it is after any operations
 abbrev pub CountsStay : Descriptions → Type 0
-CountsStay descs = (steps : List Step) → AllMayCome (no_processes descs) steps → CountsAgree (after_steps (no_processes descs) steps)
+CountsStay descs = (operations : List Operation) → AllMayCome (no_processes descs) operations → CountsAgree (after_operations (no_processes descs) operations)

@@ -37,7 +37,10 @@ pub struct Description {
 /// An open description with the number that it alone was given, and how many descriptors refer to it.
 #[derive(Clone, Copy, Debug, PartialEq, Eq)]
 pub struct Opened {
+    /// The number that it alone was given, the next one after that of the description opened before.
     pub number: u64,
+    /// What it leads to, with its offset, flags and rights.
     pub description: Description,
+    /// How many descriptors refer to it, at least 1.
     pub references: usize,
 }

@@ -42,7 +42,7 @@ impl Model for Descs {
 }
 
 impl Descs {
-    /// No descriptions, with room for none. `AllocError` is want of memory.
+    /// No descriptions, with room for none. `AllocError` is out of memory.
     pub fn new(alloc: Global) -> Result<Descs, AllocError>
         ensures empty { IfOk result (λ descs. descs ≡ record { opens = empty; next = 0 }) }
 
@@ -144,7 +144,7 @@ impl Descs {
     }
 
     /// Opens a description with one reference and the next number, and gives its id. `Nfile` comes
-    /// exactly where 1,024 are open. `Memory` is want of memory, and all is as before then.
+    /// exactly where 1,024 are open. `Memory` is out of memory, and all is as before then.
     pub fn open(&mut self, description: Description) -> Result<usize, Refusal>
         requires { self.old.next + 1 < 2 ^ 64 }
         ensures full { len self.old.opens ≡ 1024 → result ≡ Err (Refusal.Errno Errno.Nfile) }

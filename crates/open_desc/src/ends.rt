@@ -20,7 +20,7 @@ pub(crate) fn has_end(counts: &EndCounts, pipe: u32) -> bool
     }
 }
 
-/// Counts one more end of the pipe. `AllocError` is want of memory, and all is as before.
+/// Counts one more end of the pipe. `AllocError` is out of memory, and all is as before.
 pub(crate) fn add_end(counts: &mut EndCounts, pipe: u32) -> Result<(), AllocError>
     requires { count_of counts.old pipe + 1 < 2 ^ 64 }
     ensures ok { OnOk result ((q : ℕ) → count_of counts.new q ≡ count_of counts.old q + (if q == pipe then 1 else 0)) }
@@ -46,7 +46,7 @@ pub(crate) fn remove_end(counts: &mut EndCounts, pipe: u32)
     }
 }
 
-/// Counts a description of this kind that was opened. `AllocError` is want of memory, and all is as
+/// Counts a description of this kind that was opened. `AllocError` is out of memory, and all is as
 /// before.
 pub(crate) fn end_opened(
     readers: &mut EndCounts,

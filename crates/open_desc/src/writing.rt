@@ -106,7 +106,7 @@ impl Descs {
     /// must be the pipe that it names. The refusals, in their order: `Badf` where the id is not open;
     /// `Isdir` for a directory; `Notcapable` without the right to write, and for what can't be written by
     /// its kind; `Badf` where no pipe was lent; what the tree refuses. A refusal moves nothing, and so
-    /// does want of memory, `Memory`.
+    /// does out of memory, `Memory`.
     pub fn write(
         &mut self,
         id: usize,

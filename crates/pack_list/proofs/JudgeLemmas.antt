@@ -1,15 +1,9 @@
 -- The lines of a list, judged one after another.
 use Rattle.std.proofs.Common.{◌≡◌, ◌≢◌, ℕ, ◌+◌, ◌<◌, true, false, eqb, List, [], ◌∷◌, ◌++◌, length, map, Option, Some, None, Result, Ok, Err, unwrap_or, refl, sym, ap, ◌∙◌, append_assoc, arith}
 use Rattle.std.proofs.lemmas.Bool.{eqb-true, eqb-false}
-use Rattle.std.proofs.lemmas.List.{append-nil, length-append, nil_from_length}
-use Rattle.file_tree.specs.FileTree.{FileTree}
-use Rattle.pack_list.specs.Lines.{lines}
-use Rattle.pack_list.specs.Cuts.{Cuts}
-use Rattle.pack_list.specs.Judging.{Named, Judged, judge_line, behind, and_then, judge_lines}
-use Rattle.std.proofs.lemmas.List.{map_push}
+use Rattle.std.proofs.lemmas.List.{append-nil, length-append, nil_from_length, map_push}
+use Rattle.pack_list.specs.Prelude.{FileTree, lines, Cuts, Named, Judged, judge_line, behind, and_then, judge_lines, JudgesLine, TakesLine, seen, LineFault}
 use Rattle.pack_list.specs.declared.judging.Named.{Named as NamedFile}
-use Rattle.pack_list.specs.Answers.{JudgesLine, TakesLine, seen}
-use Rattle.pack_list.specs.declared.judging.LineFault.{LineFault}
 use Rattle.pack_list.specs.declared.judging.LineFault.TheVariants.{Wrong, Memory}
 use Rattle.pack_list.proofs.Pieces.{lines_cut, lines_behind}
 

@@ -1,10 +1,8 @@
 -- Cuts and pieces.
-use Rattle.std.proofs.Common.{◌≡◌, ◌≢◌, ◌⊎◌, inl, inr, ℕ, true, false, cond, eqb, List, [], ◌∷◌, ◌++◌, Option, Some, None, refl, sym, ap, ◌∙◌}
-use Rattle.std.proofs.Common.{eq-eqb}
+use Rattle.std.proofs.Common.{◌≡◌, ◌≢◌, ◌⊎◌, inl, inr, ℕ, true, false, cond, eqb, List, [], ◌∷◌, ◌++◌, Option, Some, None, refl, sym, ap, ◌∙◌, eq-eqb}
 use Rattle.std.proofs.lemmas.Bool.{ne_eqb}
 use Rattle.std.specs.List.{AllByRecursion}
-use Rattle.pack_list.specs.Lines.{before_first, pieces, words, lines, said}
-use Rattle.pack_list.specs.Cuts.{Cuts}
+use Rattle.pack_list.specs.Prelude.{before_first, pieces, words, lines, said, Cuts}
 
 module _ (separator : ℕ) (last : List (List ℕ)) where
   -- a piece before the separator

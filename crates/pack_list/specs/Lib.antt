@@ -3,3 +3,4 @@ pub mod Cuts
 pub mod Judging
 pub mod Answers
 pub mod Made
+pub mod Prelude

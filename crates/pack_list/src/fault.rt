@@ -7,7 +7,7 @@ pub enum ListFault {
     /// The line of this number, from 1, is the first that is wrong.
     #[error("wrong line")]
     Wrong(u32),
-    /// Want of memory.
+    /// Out of memory.
     #[error("out of memory")]
     Memory,
 }

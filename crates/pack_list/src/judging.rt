@@ -42,7 +42,7 @@ pub struct PackList<'a> {
 enum LineFault {
     /// It is wrong.
     Wrong,
-    /// Want of memory.
+    /// Out of memory.
     Memory,
 }
 
@@ -150,7 +150,7 @@ fn judge_lines<'a>(alloc: Global, tree: Tree, text: &'a [u8]) -> Result<PackList
 
 /// The tree of a list, in which all files are empty, and the names of their bytes. A list has at most 1,048,576
 /// bytes. `Wrong` comes exactly for the first line that is wrong: one that is neither `dir PATH` nor `file PATH
-/// NAME`, whose path is none that an image may have, or that the tree refuses. `Memory` is want of memory.
+/// NAME`, whose path is none that an image may have, or that the tree refuses. `Memory` is out of memory.
 #[tactic(auto, unfolding(crate::specs::Judging::judge))]
 pub fn judge(alloc: Global, text: &[u8]) -> Result<PackList<'_>, ListFault>
     requires { length text.now ≤ 1048576 }

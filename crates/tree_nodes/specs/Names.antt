@@ -1,9 +1,8 @@
 -- A directory's names.
 use Rattle.std.specs.Prelude.{ℕ, List, [], ◌∷◌, ◌==◌, if◌then◌else◌}
 use Rattle.std.specs.Coded.{Coded, coded_ℕ, coded_list}
-use Rattle.std.specs.Cmp.Lexicographic.{slice_cmp}
+use Rattle.finite_maps.proofs.Maps.{slice_cmp, nat_cmp}
 use Rattle.std.specs.FinMap.{FinMap, code}
-use Rattle.std.specs.Ordering.{nat_cmp}
 
 -- what each name leads to
 abbrev pub NameMap : Type 0

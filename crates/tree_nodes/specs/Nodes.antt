@@ -1,5 +1,8 @@
 -- The nodes of a file tree by number, each with a file's bytes or a directory's names.
-use Rattle.std.specs.Prelude.{◌≡◌, ℕ, Bool, false, ◌+◌, ◌-◌, ◌==◌, if◌then◌else◌, List, [], ◌∷◌, ◌++◌, length, take, drop, replicate, ◌≤◌, ⊤, Option, Some, None, is_some, is_none, refl, ◌⊎◌}
+use Rattle.std.specs.Prelude.{◌≡◌, ℕ, Bool, false, ◌+◌, ◌-◌, ◌==◌, if◌then◌else◌, List, ◌++◌, length, take, drop, replicate, ◌≤◌, ⊤, Option, Some, None, is_some, is_none, refl, ◌⊎◌}
+use Rattle.std.specs.List.{sum_by}
+use Rattle.std.specs.Map.{values_of}
+use Rattle.std.specs.Option.{option_map_or}
 use Rattle.std.specs.Coded.{Coded, code_by, coded×, coded⊎, coded_ℕ, coded_list, coded_option}
 use Rattle.std.specs.Ordering.{nat_cmp}
 use Rattle.std.specs.FinMap.{FinMap, get, insert, remove, entries, code as code_of_map}
@@ -28,10 +31,12 @@ abbrev pub size_of : Content → ℕ
 size_of (File bytes) = length bytes
 size_of (Dir names) = 0
 
+abbrev pub size_of_node : Node → ℕ
+size_of_node node = size_of node.content
+
 -- the bytes of all files
 abbrev pub sizes : List (ℕ × Node) → ℕ
-sizes [] = 0
-sizes (entry ∷ rest) = size_of entry.1.content + sizes rest
+sizes nodes = sum_by size_of_node (values_of nodes)
 
 abbrev pub bytes_of_all : NodeMap → ℕ
 bytes_of_all nodes = sizes (entries nodes)
@@ -145,8 +150,7 @@ is_free nodes dir name = lacks_name_at name (get nodes dir)
 
 -- the size of a node's file, if there is one
 abbrev pub size_found : Option Node → ℕ
-size_found None = 0
-size_found (Some node) = size_of node.content
+size_found found = option_map_or size_of_node found 0
 
 -- all files are within the limit once this node's content is changed
 abbrev pub FitsAfter : ℕ → (Content → Content) → Option Node → Type 0

@@ -53,7 +53,7 @@ impl FileBytes {
     }
 
     /// Puts `bytes` into the file from `offset` on, with zeros in a gap behind its end. `AllocError` is
-    /// want of memory and nothing else; the file is unchanged then.
+    /// out of memory and nothing else; the file is unchanged then.
     pub fn write_at(&mut self, offset: usize, bytes: &[u8]) -> Result<(), AllocError>
         requires { offset + length bytes.now < 2 ^ 63 }
         ensures ok { OnOk result (self.new ≡ written self.old offset bytes.now) }

@@ -30,7 +30,7 @@ impl Model for Name {
 }
 
 impl Name {
-    /// A copy of `bytes`. `AllocError` is want of memory and nothing else.
+    /// A copy of `bytes`. `AllocError` means out of memory and nothing else.
     pub fn new(alloc: Global, bytes: &[u8]) -> Result<Name, AllocError>
         ensures { IfOk result (λ name. name ≡ bytes.now) }
     {
@@ -139,7 +139,7 @@ impl Names {
         self.map.len() == 0
     }
 
-    /// Lets the name lead to the node. `AllocError` is want of memory and nothing else; the names are
+    /// Lets the name lead to the node. `AllocError` means out of memory and nothing else; the names are
     /// unchanged then. It doesn't come where the name was there.
     pub fn insert(&mut self, name: Name, node: u32) -> Result<(), AllocError>
         ensures ok { OnOk result (self.new ≡ insert self.old name node) }
@@ -157,7 +157,7 @@ impl Names {
     }
 
     /// A copy of the names in the order of their bytes, with the numbers of their nodes. `AllocError` is
-    /// want of memory and nothing else.
+    /// out of memory and nothing else.
     pub fn to_vec(&self, alloc: Global) -> Result<Vec<(Bytes, u32)>, AllocError>
         ensures { IfOk result (λ all. all.items ≡ entries self.now) }
     {

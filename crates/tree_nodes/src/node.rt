@@ -49,7 +49,7 @@ impl Content {
         }
     }
 
-    /// Lets a directory's name lead to a node. A file stays as it is. `AllocError` is want of memory and
+    /// Lets a directory's name lead to a node. A file stays as it is. `AllocError` is out of memory and
     /// nothing else; nothing is changed then.
     pub fn add_name(&mut self, name: Name, number: u32) -> Result<(), AllocError>
         ensures ok { OnOk result (self.new ≡ naming name number self.old) }
@@ -72,7 +72,7 @@ impl Content {
     }
 
     /// Cuts a file off at `size` bytes, or puts zeros behind its end up to there. A directory stays as
-    /// it is. `AllocError` is want of memory and nothing else; nothing is changed then.
+    /// it is. `AllocError` means out of memory and nothing else; nothing is changed then.
     pub fn resize(&mut self, size: usize) -> Result<(), AllocError>
         ensures ok { OnOk result (self.new ≡ resizing size self.old) }
         ensures err { OnErr result (self.new ≡ self.old) }
@@ -84,7 +84,7 @@ impl Content {
     }
 
     /// Puts `bytes` into a file from `offset` on, with zeros in a gap behind its end. A directory stays
-    /// as it is. `AllocError` is want of memory and nothing else; nothing is changed then.
+    /// as it is. `AllocError` means out of memory and nothing else; nothing is changed then.
     pub fn write_at(&mut self, offset: usize, bytes: &[u8]) -> Result<(), AllocError>
         requires { offset + length bytes.now < 2 ^ 63 }
         ensures ok { OnOk result (self.new ≡ writing offset bytes.now self.old) }

@@ -77,7 +77,7 @@ impl Nodes {
         self.bytes
     }
 
-    /// Puts a node without bytes under this number. `AllocError` is want of memory and nothing else; the
+    /// Puts a node without bytes under this number. `AllocError` means out of memory and nothing else; the
     /// nodes are unchanged then.
     pub fn insert(&mut self, number: u32, node: Node) -> Result<(), AllocError>
         requires { size_of node.content ≡ 0 }
@@ -121,7 +121,7 @@ impl Nodes {
     }
 
     /// Puts a new node without bytes under this number, and lets a new name of the directory lead to it.
-    /// `AllocError` is want of memory and nothing else; the nodes are unchanged then.
+    /// `AllocError` means out of memory and nothing else; the nodes are unchanged then.
     pub fn add(
         &mut self,
         alloc: Global,
@@ -152,7 +152,7 @@ impl Nodes {
         }
     }
 
-    /// Gives the file `size` bytes, where it is there. `AllocError` is want of memory and nothing else;
+    /// Gives the file `size` bytes, where it is there. `AllocError` means out of memory and nothing else;
     /// the nodes are unchanged then.
     pub fn resize(&mut self, number: u32, size: usize) -> Result<(), AllocError>
         requires { Fits self.old number (resizing size) }
@@ -171,7 +171,7 @@ impl Nodes {
         }
     }
 
-    /// Puts `bytes` into the file from `offset` on, where it is there. `AllocError` is want of memory and
+    /// Puts `bytes` into the file from `offset` on, where it is there. `AllocError` is out of memory and
     /// nothing else; the nodes are unchanged then.
     pub fn write_at(&mut self, number: u32, offset: usize, bytes: &[u8]) -> Result<(), AllocError>
         requires within { offset + length bytes.now < 2 ^ 63 }

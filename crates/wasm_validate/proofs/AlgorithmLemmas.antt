@@ -1,14 +1,7 @@
 -- Behind the events of a sequence the operands are those that its typing leaves.
 use Rattle.std.proofs.Common.{◌≡◌, Bool, true, false, ◌&&◌, cond, List, [], ◌∷◌, ◌++◌, Option, Some, None, option_and_then, option_map, option_to_list, refl, sym, ap, ◌∙◌, arith}
-use Rattle.wasm_ast.specs.declared.types.ValType.{ValType}
-use Rattle.wasm_ast.specs.declared.types.ValType.TheVariants.{I32}
-use Rattle.wasm_ast.specs.declared.instr.BlockKind.{BlockKind}
+use Rattle.wasm_validate.specs.Prelude.{ValType, I32, BlockKind, Sequence, Empty, Plain, Block, If, Event, Else, End, is_empty, events, Context, Operands, no_operands, push_operands, pop_expected, after, leaves, typed, label_of, is_body, OpenBlocks, labels_of, first_block, opened, ended, fitting, with_operands, step, behind}
 use Rattle.wasm_ast.specs.declared.instr.BlockKind.TheVariants as kind
-use Rattle.wasm_ast.specs.Sequence.{Sequence, Empty, Plain, Block, If}
-use Rattle.wasm_ast.specs.Events.{Event, Else, End, is_empty, events}
-use Rattle.wasm_ast.specs.Typing.{Context, Operands, no_operands, push_operands, pop_expected, after, leaves, typed, label_of, is_body}
-use Rattle.wasm_validate.specs.Blocks.{OpenBlocks, labels_of, first_block, opened, ended}
-use Rattle.wasm_validate.specs.Algorithm.{fitting, with_operands, step, behind}
 
 -- what doesn't fit is not mended
 behind_none : (c : Context) (es : List Event) → behind c es None ≡ None

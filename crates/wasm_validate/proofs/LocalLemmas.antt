@@ -1,10 +1,7 @@
 -- The type of a local is that of a parameter, or of one behind the parameters.
 use Rattle.std.proofs.Common.{◌≡◌, ℕ, zero, suc, ◌+◌, ◌-◌, ◌<◌, ◌≤◌, List, [], ◌∷◌, length, get_or, slice_get, Some, None, option_map, refl, sym, ap, ◌∙◌, arith}
 use Rattle.std.proofs.lemmas.Option.{slice_get-get_or, slice_get_past}
-use Rattle.wasm_ast.specs.declared.types.ValType.{ValType}
-use Rattle.wasm_ast.specs.declared.locals.LocalGroup.{LocalGroup}
-use Rattle.wasm_ast.specs.Typing.{group_type, local_type}
-use Rattle.wasm_validate.specs.Ends.{ends_from}
+use Rattle.wasm_validate.specs.Prelude.{ValType, LocalGroup, group_type, local_type, ends_from}
 
 pub local_param : (ts : List ValType) (gs : List LocalGroup) (n : ℕ) (d : ValType) → n < length ts → local_type ts gs n ≡ Some (get_or ts n d)
 local_param [] gs n d h = absurd (omega arith)

@@ -3,16 +3,8 @@ use Rattle.std.proofs.Common.{◌≡◌, ℕ, zero, suc, ◌+◌, ◌-◌, ◌<�
 use Rattle.std.specs.List.{list_all, list_any}
 use Rattle.std.specs.Str.{bytes_eq}
 use Rattle.std.proofs.lemmas.List.{drop_more}
-use Rattle.wasm_ast.specs.declared.types.ValType.{ValType}
-use Rattle.wasm_ast.specs.declared.instr.Instr.{Instr}
+use Rattle.wasm_validate.specs.Prelude.{ValType, Instr, GlobalGet, Export, Code, Sequence, in_front, sequence, Context, is_constant_instruction, are_constant, are_different, are_functions}
 use Rattle.wasm_ast.specs.declared.instr.Instr.TheVariants as instr
-use Rattle.wasm_ast.specs.declared.instr.VariableOp.TheVariants.{GlobalGet}
-use Rattle.wasm_ast.specs.declared.module.Export.{Export}
-use Rattle.wasm_ast.specs.declared.module.Code.{Code}
-use Rattle.wasm_ast.specs.Sequence.{Sequence}
-use Rattle.wasm_ast.specs.Numbering.{in_front, sequence}
-use Rattle.wasm_ast.specs.Typing.{Context}
-use Rattle.wasm_ast.specs.TypingModule.{is_constant_instruction, are_constant, are_different, are_functions}
 
 constant_front : (globals : List (ValType × Bool)) (F : ℕ → Sequence) (i : Instr) (rest : Sequence) → are_constant globals (in_front F i rest) ≡ (is_constant_instruction globals i && are_constant globals rest)
 constant_front globals F (instr.Variable GlobalGet x) rest = refl

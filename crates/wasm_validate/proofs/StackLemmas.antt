@@ -2,11 +2,8 @@
 use Rattle.std.proofs.Common.{◌≡◌, ℕ, zero, suc, ◌+◌, ◌-◌, ◌<◌, ◌≤◌, Bool, true, false, ◌&&◌, List, [], ◌∷◌, ◌++◌, map, length, take, drop, reverse, get_or, slice_get, Option, Some, None, option_and_then, option_map, refl, sym, ap, ◌∙◌, arith}
 use Rattle.std.proofs.lemmas.List.{reverse-append, length-reverse, length-drop, take-append-drop, drop_at, get_or-reverse, length-map, take_more}
 use Rattle.std.proofs.lemmas.Option.{slice_get-get_or, slice_get_past, slice_get-map}
-use Rattle.wasm_ast.specs.declared.types.ValType.{ValType}
+use Rattle.wasm_validate.specs.Prelude.{ValType, Frame, outer_labels, Closes, outer_of, view_of, count_of}
 use Rattle.wasm_ast.specs.Typing.{Operands, unreachable_operands, pop_expected, pop_operands, is_empty, label_of}
-use Rattle.wasm_validate.specs.declared.blocks.Frame.{Frame}
-use Rattle.wasm_validate.specs.Blocks.{outer_labels, Closes}
-use Rattle.wasm_validate.specs.View.{outer_of, view_of, count_of}
 
 module _ {X : Type 0} where
   pub reverse_push : (xs : List X) (x : X) → reverse (xs ++ x ∷ []) ≡ x ∷ reverse xs

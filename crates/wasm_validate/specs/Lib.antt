@@ -4,3 +4,4 @@ pub mod Context
 pub mod Algorithm
 pub mod Ends
 pub mod Elements
+pub mod Prelude

@@ -1,7 +1,6 @@
 // The open blocks of a function, with their operands.
 ghost use Rattle.std.specs.Prelude.{◌≡◌, ◌+◌, ◌<◌, ◌^◌, ◌&&◌, true, [], ◌∷◌, IfOk, OnOk, option_to_list, slice_get};
-ghost use Rattle.wasm_ast.specs.Typing.{no_operands, unreachable_operands, push_operand, pop_operand, pop_expected, pop_operands, push_operands, applied, is_empty};
-ghost use Rattle.wasm_ast.specs.Typing.{label_of};
+ghost use Rattle.wasm_ast.specs.Typing.{no_operands, unreachable_operands, push_operand, pop_operand, pop_expected, pop_operands, push_operands, applied, is_empty, label_of};
 ghost use Rattle.wasm_validate.specs.Blocks.{OpenBlocks, ended, popped_to, labels_of, first_block, opened, Closes};
 
 use std::alloc::{AllocError, Global};
@@ -11,6 +10,7 @@ use wasm_ast::{BlockKind, ValType};
 /// An open block. An arm of an if, and the function's own instructions, are blocks.
 #[derive(Clone, Copy)]
 pub struct Block {
+    /// Whether a branch to it leaves it, or begins it anew.
     pub kind: BlockKind,
     /// The type of the value that it leaves, if any.
     pub of: Option<ValType>,

@@ -1,7 +1,5 @@
 use Rattle.std.proofs.Common.{length}
-use Rattle.file_tree.specs.FileTree.{FileTree}
-use Rattle.boot_image.specs.Image.{Remains}
-use Rattle.boot_image.specs.Steps.{IsBytes}
+use Rattle.boot_image.specs.Prelude.{FileTree, Remains, IsBytes}
 use Rattle.boot_image.proofs.read.fill.Given as goal
 
 abbrev pub invariant-entries : goal.invariant-entries

@@ -1,10 +1,7 @@
 use Rattle.std.proofs.Common.{◌≡◌, ℕ, List, [], ◌∷◌, ◌++◌, map, sym, ap, subst, ◌∙◌, append-nil, append_assoc}
 use Rattle.std.specs.List.{flat_map}
 use Rattle.std.specs.FinMap.{entries}
-use Rattle.file_tree.specs.FileTree.{FileTree}
-use Rattle.boot_image.specs.Entries.{magic, entry_bytes}
-use Rattle.boot_image.specs.Same.{ReadsBack}
-use Rattle.boot_image.specs.Written.{paths_of, entry_of, entries_of, image_of}
+use Rattle.boot_image.specs.Prelude.{FileTree, magic, entry_bytes, ReadsBack, paths_of, entry_of, entries_of, image_of}
 use Rattle.boot_image.proofs.RoundTrip.{reads_back, short_where_read}
 use Rattle.boot_image.proofs.write.write_image.Goals as goal
 

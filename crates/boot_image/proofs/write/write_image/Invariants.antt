@@ -1,8 +1,7 @@
 use Rattle.std.proofs.Common.{◌≡◌, ◌++◌, map, length}
 use Rattle.std.specs.List.{flat_map}
 use Rattle.std.specs.FinMap.{entries}
-use Rattle.boot_image.specs.Entries.{magic, entry_bytes}
-use Rattle.boot_image.specs.Written.{paths_of, entry_of}
+use Rattle.boot_image.specs.Prelude.{magic, entry_bytes, paths_of, entry_of}
 use Rattle.boot_image.proofs.write.write_image.Given as goal
 
 abbrev pub invariant-loop-path : goal.invariant-loop-path

@@ -1,7 +1,5 @@
 use Rattle.std.proofs.Common.{◌≡◌, ℕ, zero, suc, ◌-◌, ◌<◌, ◌∷◌, ◌++◌, List, Option, Some, reverse, sym, ap, ◌∙◌, arith, append_assoc}
-use Rattle.file_tree.specs.FileTree.{NodeMap}
-use Rattle.file_tree.specs.Walk.{names_at}
-use Rattle.file_tree.specs.Listings.{path_down, path_through, name_for}
+use Rattle.file_tree.specs.Prelude.{NodeMap, names_at, path_down, path_through, name_for}
 use Rattle.file_tree.proofs.path.path_bytes.Goals as goal
 
 -- the path to a node is that to the directory above it, and its name

@@ -1,6 +1,5 @@
 use Rattle.std.proofs.Common.{◌≡◌, ◌-◌, ◌<◌, true, None, [], drop, get_or}
-use Rattle.tree_nodes.specs.Nodes.{is_free}
-use Rattle.file_tree.specs.Walk.{walk_on, place_itself}
+use Rattle.file_tree.specs.Prelude.{is_free, walk_on, place_itself}
 use Rattle.file_tree.proofs.walk.walk_names.Given as goal
 
 -- what is left leads on from here, and a component that names nothing is free where it was looked for

@@ -1,8 +1,6 @@
 use Rattle.std.proofs.Common.{◌+◌, ◌++◌, ℕ, List, length, map, sym, ap, ◌∙◌, arith}
 use Rattle.std.specs.Option.{option_copied}
-use Rattle.pack_list.specs.Lines.{lines}
-use Rattle.pack_list.specs.Judging.{Named, behind, judge_lines}
-use Rattle.pack_list.specs.Answers.{seen}
+use Rattle.pack_list.specs.Prelude.{lines, Named, behind, judge_lines, seen}
 use Rattle.pack_list.proofs.JudgeLemmas.{one_line, shorter}
 use Rattle.pack_list.proofs.judging.judge_lines.Goals as goal
 

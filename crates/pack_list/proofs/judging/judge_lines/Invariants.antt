@@ -1,7 +1,5 @@
 use Rattle.std.proofs.Common.{◌≡◌, ◌+◌, ◌≤◌, length, map}
-use Rattle.pack_list.specs.Lines.{lines}
-use Rattle.pack_list.specs.Judging.{behind, judge_lines}
-use Rattle.pack_list.specs.Answers.{seen}
+use Rattle.pack_list.specs.Prelude.{lines, behind, judge_lines, seen}
 use Rattle.pack_list.proofs.judging.judge_lines.Given as goal
 
 abbrev pub invariant-lines : goal.invariant-lines

@@ -1,6 +1,5 @@
 use Rattle.std.proofs.Common.{◌≡◌, ◌+◌, ◌<◌, ◌^◌, ◌++◌, drop}
-use Rattle.wasm_ast.specs.Locals.{total}
-use Rattle.wasm_validate.specs.Ends.{ends_from}
+use Rattle.wasm_validate.specs.Prelude.{total, ends_from}
 use Rattle.wasm_validate.proofs.context.ends.Given as goal
 
 abbrev pub invariant-loop-group : goal.invariant-loop-group

@@ -1,7 +1,6 @@
 use Rattle.std.proofs.Common.{◌≡◌, drop, slice_get}
 use Rattle.std.specs.List.{list_all}
-use Rattle.wasm_ast.specs.Typing.{takes}
-use Rattle.wasm_validate.specs.Blocks.{labels_of}
+use Rattle.wasm_validate.specs.Prelude.{takes, labels_of}
 use Rattle.wasm_validate.proofs.context.table_value.Given as goal
 
 abbrev pub invariant-loop-label : goal.invariant-loop-label

@@ -1,6 +1,5 @@
 use Rattle.std.proofs.Common.{◌≡◌, ℕ, ◌<◌, take, length, get_or, None}
-use Rattle.wasm_ast.specs.Table.{or_else}
-use Rattle.wasm_validate.specs.Elements.{from_place}
+use Rattle.wasm_validate.specs.Prelude.{or_else, from_place}
 use Rattle.wasm_validate.proofs.elements.put_from.Given as goal
 
 abbrev pub invariant-loop-i : goal.invariant-loop-i

@@ -1,6 +1,5 @@
 use Rattle.std.proofs.Common.{sym, ap, ◌∙◌}
-use Rattle.wasm_ast.specs.Position.{sequence_at}
-use Rattle.wasm_ast.specs.TypingModule.{are_constant}
+use Rattle.wasm_validate.specs.Prelude.{sequence_at, are_constant}
 use Rattle.wasm_validate.proofs.ModuleLemmas.{are_constant-sequence}
 use Rattle.wasm_validate.proofs.rules.are_constant.Goals as goal
 

@@ -4,8 +4,7 @@ use Rattle.std.specs.Str.{bytes_eq}
 use Rattle.std.specs.BTreeMap as tree
 use Rattle.std.specs.Cmp.Lexicographic.{slice_cmp}
 use Rattle.std.specs.Ordering.{nat_cmp}
-use Rattle.wasm_ast.specs.declared.module.Export.{Export}
-use Rattle.wasm_ast.specs.TypingModule.{are_different}
+use Rattle.wasm_validate.specs.Prelude.{Export, are_different}
 use Rattle.wasm_validate.proofs.rules.are_different.Given as goal
 
 abbrev pub invariant-loop-left : goal.invariant-loop-left

@@ -1,8 +1,7 @@
 use Rattle.std.proofs.Common.{◌+◌, sym, subst, refl}
-use Rattle.file_tree.specs.Trees.{IsTree}
+use Rattle.file_tree.specs.Prelude.{IsTree, with_links}
 use Rattle.file_tree.proofs.TreeLemmas.{same_tree, changed_same, same_parent}
 use Rattle.std.specs.FinMap.{get}
-use Rattle.tree_nodes.specs.Nodes.{with_links}
 use Rattle.file_tree.proofs.tree.Tree.hold.Goals as goal
 
 pub invariant_of-self : goal.invariant_of-self

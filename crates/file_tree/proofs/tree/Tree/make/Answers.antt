@@ -1,10 +1,8 @@
 use Rattle.std.proofs.Common.{◌+◌, sym, ap, subst, ◌∙◌, arith}
 use Rattle.std.specs.FinMap.{insert}
-use Rattle.file_tree.specs.FileTree.{FileTree, new_node, named}
-use Rattle.file_tree.specs.Trees.{IsTree}
-use Rattle.file_tree.specs.Walk.{last_name}
-use Rattle.file_tree.proofs.TreeLemmas.{tree_with_new, linked_up, none_from}
-use Rattle.tree_nodes.specs.Nodes.{is_free}
+use Rattle.file_tree.specs.Prelude.{FileTree, new_node, named, IsTree, last_name, is_free}
+use Rattle.finite_maps.proofs.Options.{not_some}
+use Rattle.file_tree.proofs.TreeLemmas.{tree_with_new, linked_up}
 use Rattle.file_tree.proofs.tree.Tree.make.Goals as goal
 
 pub invariant_of-self-2 : goal.invariant_of-self-2
@@ -13,7 +11,7 @@ invariant_of-self-2 c =
     let next = c.self.inside.next in
     let dir = c.args.place.dir in
     let path = c.args.path.now in
-    let none = none_from c.args.place.node (sym c.is_some.ensures ∙ c.if-is_some.false) in
+    let none = not_some c.args.place.node (sym c.is_some.ensures ∙ c.if-is_some.false) in
     let up = linked_up nodes dir (sym c.is_linked.ensures ∙ c.if-not-is_linked.false) in
     let free = ap (λ (t : FileTree). is_free t.nodes dir (last_name path)) c.self.view_is ∙ c.requires.free none in
     let new = tree_with_new nodes next dir up.0 (last_name path) c.args.content c.self.invariant up.1 free (c.requires.name none) c.requires.names

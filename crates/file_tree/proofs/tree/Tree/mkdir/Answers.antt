@@ -1,6 +1,5 @@
 use Rattle.std.proofs.Common.{nat_cmp, sym, ap, ◌∙◌}
-use Rattle.std.specs.Cmp.Lexicographic.{slice_cmp}
-use Rattle.std.specs.FinMap.{get, get-empty}
+use Rattle.finite_maps.proofs.Maps.{slice_cmp, get, get-empty}
 use Rattle.file_tree.proofs.Ends.{walk_to_none, last_good}
 use Rattle.file_tree.proofs.tree.Tree.mkdir.Goals as goal
 

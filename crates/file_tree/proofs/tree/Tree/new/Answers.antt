@@ -1,9 +1,7 @@
 use Rattle.std.proofs.Common.{Some, sym, ap, subst, ◌∙◌}
 use Rattle.std.specs.FinMap.{insert, empty}
-use Rattle.file_tree.specs.Trees.{IsTree}
+use Rattle.file_tree.specs.Prelude.{IsTree, Dir, Node}
 use Rattle.file_tree.proofs.TreeLemmas.{root_tree}
-use Rattle.tree_nodes.specs.declared.node.Content.TheVariants.{Dir}
-use Rattle.tree_nodes.specs.declared.node.Node.{Node}
 use Rattle.file_tree.proofs.tree.Tree.new.Goals as goal
 
 pub invariant_of-result : goal.invariant_of-result

@@ -1,7 +1,5 @@
 use Rattle.std.proofs.Common.{sym, ap, subst, ◌∙◌}
-use Rattle.file_tree.specs.FileTree.{FileTree}
-use Rattle.file_tree.specs.Trees.{IsName, Leads, target}
-use Rattle.file_tree.specs.Walk.{last_name}
+use Rattle.file_tree.specs.Prelude.{FileTree, IsName, Leads, target, last_name}
 use Rattle.file_tree.proofs.Ends.{entry_named, walk_ends, last_good}
 use Rattle.file_tree.proofs.TreeLemmas.{leads_is}
 use Rattle.file_tree.proofs.tree.Tree.rename.Goals as goal

@@ -1,8 +1,6 @@
 use Rattle.std.proofs.Common.{◌≡◌, ℕ, eqb, Option, None, Some, refl, sym, ap, subst, ◌∙◌}
 use Rattle.std.specs.Option.{option_eq}
-use Rattle.file_tree.specs.FileTree.{FileTree}
-use Rattle.file_tree.specs.Names.{moved, replacing, is_node}
-use Rattle.file_tree.specs.Trees.{IsTree, Leads, target}
+use Rattle.file_tree.specs.Prelude.{FileTree, moved, replacing, is_node, IsTree, Leads, target}
 use Rattle.file_tree.proofs.MoveLemmas.{tree_with_renamed}
 use Rattle.file_tree.proofs.tree.Tree.rename_node.Goals as goal
 

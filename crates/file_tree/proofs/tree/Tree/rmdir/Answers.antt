@@ -1,7 +1,5 @@
 use Rattle.std.proofs.Common.{sym, ap, subst, ◌∙◌}
-use Rattle.file_tree.specs.Names.{removed, has_no_names}
-use Rattle.file_tree.specs.Trees.{IsTree}
-use Rattle.file_tree.specs.Walk.{last_name}
+use Rattle.file_tree.specs.Prelude.{removed, has_no_names, IsTree, last_name}
 use Rattle.file_tree.proofs.Ends.{entry_named, walk_ends, content_found}
 use Rattle.file_tree.proofs.TreeLemmas.{gone_of, leads_is}
 use Rattle.file_tree.proofs.tree.Tree.rmdir.Goals as goal

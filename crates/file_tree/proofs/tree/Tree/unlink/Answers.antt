@@ -1,10 +1,7 @@
-use Rattle.std.proofs.Common.{sym, ap, subst, ◌∙◌}
-use Rattle.file_tree.specs.Names.{removed, has_no_names}
-use Rattle.file_tree.specs.Trees.{IsTree}
-use Rattle.file_tree.specs.Walk.{last_name}
+use Rattle.std.proofs.Common.{sym, ap, subst, ◌∙◌, Some}
+use Rattle.file_tree.specs.Prelude.{removed, has_no_names, IsTree, last_name}
 use Rattle.file_tree.proofs.Ends.{walk_to_file, content_found}
 use Rattle.file_tree.proofs.TreeLemmas.{gone_of, leads_is, file_has_none}
-use Rattle.std.proofs.Common.{Some}
 use Rattle.file_tree.proofs.tree.Tree.unlink.Goals as goal
 
 pub invariant_of-self : goal.invariant_of-self

@@ -1,8 +1,7 @@
 use Rattle.std.proofs.Common.{ap, sym, ◌∙◌}
 use Rattle.std.specs.Option.{option_map}
 use Rattle.fd_table.proofs.PlaceLemmas.{get-by_place}
-use Rattle.open_desc.specs.Descriptions.{description_of}
-use Rattle.open_desc.specs.declared.description.Opened.{Opened}
+use Rattle.open_desc.specs.Prelude.{description_of, Opened}
 use Rattle.open_desc.proofs.descriptions.Descs.get.Goals as goal
 
 pub returns-in-Some : goal.returns-in-Some

@@ -1,11 +1,7 @@
 use Rattle.std.proofs.Common.{◌≡◌, Option, None, List, [], get_or, ap, sym, subst}
 use Rattle.std.specs.FinMap.{empty}
-use Rattle.fd_table.specs.Places.{by_place}
+use Rattle.open_desc.specs.Prelude.{by_place, Opens, Opened, Descriptions, CountsStay}
 use Rattle.fd_table.proofs.PlaceLemmas.{by_place-none}
-use Rattle.open_desc.specs.Codes.{Opens}
-use Rattle.open_desc.specs.declared.description.Opened.{Opened}
-use Rattle.open_desc.specs.Descriptions.{Descriptions}
-use Rattle.open_desc.specs.Processes.{CountsStay}
 use Rattle.open_desc.proofs.CountLemmas.{AreCounted-none}
 use Rattle.open_desc.proofs.ProcessLemmas.{counts_stay}
 use Rattle.open_desc.proofs.descriptions.Descs.new.Goals as goal

@@ -1,13 +1,8 @@
 use Rattle.std.proofs.Common.{◌≡◌, ℕ, ◌+◌, true, false, None, arith, ap, sym, subst, ◌∙◌}
 use Rattle.std.specs.FinMap.{get, len, insert}
 use Rattle.slab.specs.Slab.{Slab, get as value_at}
-use Rattle.fd_table.specs.Places.{by_place}
+use Rattle.open_desc.specs.Prelude.{by_place, Opens, Descriptions, after_open, AreCounted, Description, Opened}
 use Rattle.fd_table.proofs.PlaceLemmas.{get-by_place}
-use Rattle.open_desc.specs.Codes.{Opens}
-use Rattle.open_desc.specs.Descriptions.{Descriptions, after_open}
-use Rattle.open_desc.specs.Ends.{AreCounted}
-use Rattle.open_desc.specs.declared.description.Description.{Description}
-use Rattle.open_desc.specs.declared.description.Opened.{Opened}
 use Rattle.open_desc.proofs.CountLemmas.{AreCounted-opened, count-small, on_ok}
 use Rattle.open_desc.proofs.SlabLemmas.{by_place-updated, len-by_place}
 use Rattle.open_desc.proofs.descriptions.Descs.open.Goals as goal

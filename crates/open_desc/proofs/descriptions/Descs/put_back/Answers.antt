@@ -1,10 +1,9 @@
 use Rattle.std.proofs.Common.{ap, sym, subst, ◌∙◌}
 use Rattle.std.specs.FinMap.{get}
 use Rattle.fd_table.proofs.PlaceLemmas.{get-by_place}
-use Rattle.open_desc.specs.Codes.{Opens}
-use Rattle.open_desc.specs.Descriptions.{with_opened}
-use Rattle.open_desc.specs.Ends.{AreCounted}
-use Rattle.open_desc.proofs.CountLemmas.{AreCounted-changed, entry_of, none_some}
+use Rattle.open_desc.specs.Prelude.{Opens, with_opened, AreCounted}
+use Rattle.open_desc.proofs.CountLemmas.{AreCounted-changed, entry_of}
+use Rattle.std.proofs.lemmas.Option.{none-some}
 use Rattle.open_desc.proofs.SlabLemmas.{by_place-written}
 use Rattle.open_desc.proofs.descriptions.Descs.put_back.Goals as goal
 
@@ -12,7 +11,7 @@ pub unreachable-requires : goal.unreachable-requires
 unreachable-requires c =
     let entry = entry_of _ _ c.requires in
     let there = ap (λ descs. get descs.opens c.args.id) c.self.view_is ∙ entry.1 in
-    none_some (c.in_default.ensures.value ∙ sym (get-by_place c.self.inside.slab.slots c.args.id) ∙ there)
+    none-some _ (c.in_default.ensures.value ∙ sym (get-by_place c.self.inside.slab.slots c.args.id) ∙ there)
 
 pub invariant_of-self : goal.invariant_of-self
 invariant_of-self c =

@@ -1,17 +1,17 @@
 use Rattle.std.proofs.Common.{true, false, ap, sym, subst, ◌∙◌}
 use Rattle.std.specs.FinMap.{get, remove}
 use Rattle.fd_table.proofs.PlaceLemmas.{get-by_place}
-use Rattle.open_desc.specs.Codes.{Opens}
-use Rattle.open_desc.specs.Descriptions.{Descriptions}
-use Rattle.open_desc.specs.Ends.{AreCounted}
-use Rattle.open_desc.proofs.CountLemmas.{AreCounted-closed, counted_end, none_some, some_of}
+use Rattle.open_desc.specs.Prelude.{Opens, Descriptions, AreCounted}
+use Rattle.open_desc.proofs.CountLemmas.{AreCounted-closed, counted_end}
+use Rattle.std.proofs.lemmas.Option.{none-some}
+use Rattle.finite_maps.proofs.Options.{some_from}
 use Rattle.open_desc.proofs.SlabLemmas.{by_place-emptied}
 use Rattle.open_desc.proofs.descriptions.Descs.take_out.Goals as goal
 
 pub unreachable-requires : goal.unreachable-requires
 unreachable-requires c =
-    let entry = some_of _ c.requires in
-    none_some (c.in_default.ensures.value ∙ sym (get-by_place c.self.inside.slab.slots c.args.id) ∙ ap (λ (descs : Descriptions). get descs.opens c.args.id) c.self.view_is ∙ entry.1)
+    let entry = some_from _ c.requires in
+    none-some _ (c.in_default.ensures.value ∙ sym (get-by_place c.self.inside.slab.slots c.args.id) ∙ ap (λ (descs : Descriptions). get descs.opens c.args.id) c.self.view_is ∙ entry.1)
 
 pub end_closed-requires-clause-reading : goal.end_closed-requires-clause-reading
 end_closed-requires-clause-reading c q =

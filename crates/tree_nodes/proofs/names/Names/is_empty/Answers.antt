@@ -1,7 +1,5 @@
 use Rattle.std.proofs.Common.{sym, ap, ◌∙◌, eqb}
-use Rattle.std.specs.Cmp.Lexicographic.{nat_list_cmp_total}
-use Rattle.std.specs.FinMap.{len}
-use Rattle.tree_nodes.proofs.MapLemmas.{len_of_sorted}
+use Rattle.finite_maps.proofs.Maps.{len_of_sorted, nat_list_cmp_total, len}
 use Rattle.tree_nodes.proofs.names.Names.is_empty.Goals as goal
 
 pub returns : goal.returns

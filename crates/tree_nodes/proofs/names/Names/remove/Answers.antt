@@ -1,10 +1,8 @@
 use Rattle.std.proofs.Common.{ap, ◌∙◌}
-use Rattle.std.specs.Cmp.Lexicographic.{nat_list_cmp_total}
-use Rattle.std.specs.FinMap.{remove, slice_cmp-IsAntisymmetric, nat_cmp-IsAntisymmetric}
-use Rattle.tree_nodes.proofs.MapLemmas.{taken_out}
+use Rattle.finite_maps.proofs.Maps.{from_entries-remove, nat_list_cmp-IsAntisymmetric, nat_list_cmp_total, remove}
 use Rattle.tree_nodes.proofs.names.Names.remove.Goals as goal
 
 pub returns : goal.returns
 returns c =
-    taken_out nat_list_cmp_total (slice_cmp-IsAntisymmetric nat_cmp-IsAntisymmetric) c.self.inside.map.entries c.remove.new.self.entries c.args.name.now c.remove.ensures.updates.0
+    from_entries-remove nat_list_cmp_total nat_list_cmp-IsAntisymmetric c.self.inside.map.entries c.remove.new.self.entries c.args.name.now c.remove.ensures.updates.0
     ∙ ap (λ names. remove names c.args.name.now) c.self.view_is

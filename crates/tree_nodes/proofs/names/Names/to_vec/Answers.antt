@@ -1,7 +1,5 @@
 use Rattle.std.proofs.Common.{◌++◌, sym, ap, ◌∙◌}
-use Rattle.std.specs.Cmp.Lexicographic.{nat_list_cmp_total}
-use Rattle.std.specs.FinMap.{entries}
-use Rattle.tree_nodes.proofs.MapLemmas.{entries_of_sorted}
+use Rattle.finite_maps.proofs.Maps.{entries_of_sorted, nat_list_cmp_total, entries}
 use Rattle.tree_nodes.proofs.names.Names.to_vec.Goals as goal
 
 pub loop-name-init : goal.loop-name-init

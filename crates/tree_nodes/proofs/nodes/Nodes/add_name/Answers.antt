@@ -1,8 +1,7 @@
 use Rattle.std.proofs.Common.{◌≡◌, ◌≤◌, sym, ap, subst, ◌∙◌, arith, OnOk, OnErr}
 use Rattle.std.specs.FinMap.{from_entries}
-use Rattle.tree_nodes.specs.Nodes.{sizes, changed, with_change, naming}
+use Rattle.tree_nodes.specs.Prelude.{sizes, changed, with_change, naming, Node}
 use Rattle.tree_nodes.specs.declared.nodes.Nodes.TheInside.{Inside}
-use Rattle.tree_nodes.specs.declared.node.Node.{Node}
 use Rattle.tree_nodes.proofs.NodeLemmas.{lent, not_lent, written_node, written_same, sizes_set, on_ok, on_err, size_naming, size_either}
 use Rattle.tree_nodes.proofs.nodes.Nodes.add_name.Goals as goal
 use Rattle.tree_nodes.proofs.nodes.Nodes.add_name.Goals.{in-Some, in-None}

@@ -1,8 +1,7 @@
 use Rattle.std.proofs.Common.{◌≡◌, ◌≤◌, sym, ap, subst, ◌∙◌, arith}
 use Rattle.std.specs.FinMap.{from_entries}
-use Rattle.tree_nodes.specs.Nodes.{sizes, size_of, changed, with_change, forgetting}
+use Rattle.tree_nodes.specs.Prelude.{sizes, size_of, changed, with_change, forgetting, Node}
 use Rattle.tree_nodes.specs.declared.nodes.Nodes.TheInside.{Inside}
-use Rattle.tree_nodes.specs.declared.node.Node.{Node}
 use Rattle.tree_nodes.proofs.NodeLemmas.{lent, not_lent, written_node, sizes_set, size_forgetting}
 use Rattle.tree_nodes.proofs.nodes.Nodes.forget_name.Goals as goal
 use Rattle.tree_nodes.proofs.nodes.Nodes.forget_name.Goals.{in-Some, in_default}

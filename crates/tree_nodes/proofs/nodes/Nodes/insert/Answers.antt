@@ -1,11 +1,7 @@
 use Rattle.std.proofs.Common.{ap, ◌∙◌, arith}
 use Rattle.std.specs.BTreeMap.{is_at}
-use Rattle.std.specs.Ordering.{nat_cmp}
-use Rattle.std.specs.FinMap.{insert}
-use Rattle.std.specs.Cmp.{nat_cmp_total}
-use Rattle.std.specs.FinMap.{nat_cmp-IsAntisymmetric}
 use Rattle.tree_nodes.specs.Nodes.{sizes, size_found}
-use Rattle.tree_nodes.proofs.MapLemmas.{inserted}
+use Rattle.finite_maps.proofs.Maps.{from_entries-insert, nat_cmp, insert, nat_cmp-IsAntisymmetric, nat_cmp_total}
 use Rattle.tree_nodes.proofs.NodeLemmas.{size_found_le, sizes_inserted}
 use Rattle.tree_nodes.proofs.nodes.Nodes.insert.Goals as goal
 
@@ -20,5 +16,5 @@ invariant_of-self-2 c = (
 
 pub returns-clause-ok : goal.returns-clause-ok
 returns-clause-ok c =
-    inserted nat_cmp_total nat_cmp-IsAntisymmetric c.self.inside.map.entries c.insert.new.self.entries c.args.number c.args.node c.in_ok-old.ensures.updates.0
+    from_entries-insert nat_cmp_total nat_cmp-IsAntisymmetric c.self.inside.map.entries c.insert.new.self.entries c.args.number c.args.node c.in_ok-old.ensures.updates.0
     ∙ ap (λ nodes. insert nodes c.args.number c.args.node) c.self.view_is

@@ -1,7 +1,5 @@
 use Rattle.std.proofs.Common.{sym, ap, ◌∙◌}
-use Rattle.std.specs.FinMap.{len}
-use Rattle.std.specs.Cmp.{nat_cmp_total}
-use Rattle.tree_nodes.proofs.MapLemmas.{len_of_sorted}
+use Rattle.finite_maps.proofs.Maps.{len_of_sorted, len, nat_cmp_total}
 use Rattle.tree_nodes.proofs.nodes.Nodes.len.Goals as goal
 
 pub returns : goal.returns

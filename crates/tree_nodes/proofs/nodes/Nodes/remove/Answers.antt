@@ -1,11 +1,7 @@
 use Rattle.std.proofs.Common.{ap, ◌∙◌, arith}
 use Rattle.std.specs.BTreeMap.{is_at}
-use Rattle.std.specs.Ordering.{nat_cmp}
-use Rattle.std.specs.FinMap.{remove}
-use Rattle.std.specs.Cmp.{nat_cmp_total}
-use Rattle.std.specs.FinMap.{nat_cmp-IsAntisymmetric}
 use Rattle.tree_nodes.specs.Nodes.{sizes, size_found}
-use Rattle.tree_nodes.proofs.MapLemmas.{taken_out}
+use Rattle.finite_maps.proofs.Maps.{from_entries-remove, nat_cmp, remove, nat_cmp-IsAntisymmetric, nat_cmp_total}
 use Rattle.tree_nodes.proofs.NodeLemmas.{sizes_removed}
 use Rattle.tree_nodes.proofs.nodes.Nodes.remove.Goals as goal
 
@@ -20,5 +16,5 @@ invariant_of-self c = (
 
 pub returns : goal.returns
 returns c =
-    taken_out nat_cmp_total nat_cmp-IsAntisymmetric c.self.inside.map.entries c.remove-old.new.self.entries c.args.number c.remove-old.ensures.updates.0
+    from_entries-remove nat_cmp_total nat_cmp-IsAntisymmetric c.self.inside.map.entries c.remove-old.new.self.entries c.args.number c.remove-old.ensures.updates.0
     ∙ ap (λ nodes. remove nodes c.args.number) c.self.view_is

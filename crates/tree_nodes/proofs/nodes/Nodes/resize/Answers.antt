@@ -1,9 +1,6 @@
 use Rattle.std.proofs.Common.{sym, ap, ◌∙◌, arith}
-use Rattle.std.specs.FinMap.{get}
-use Rattle.std.specs.Cmp.{nat_cmp_total}
-use Rattle.tree_nodes.specs.Nodes.{sizes, bytes_of_all, changed, with_change, resizing}
-use Rattle.tree_nodes.specs.declared.node.Node.{Node}
-use Rattle.tree_nodes.proofs.MapLemmas.{get_entry}
+use Rattle.tree_nodes.specs.Prelude.{sizes, bytes_of_all, changed, with_change, resizing, Node}
+use Rattle.finite_maps.proofs.Maps.{get-lookup, get, nat_cmp_total}
 use Rattle.tree_nodes.proofs.NodeLemmas.{lent, not_lent, written_node, written_same, sizes_set, size_le, sizes_all, on_ok, on_err, fits_after, fits_either}
 use Rattle.tree_nodes.proofs.nodes.Nodes.resize.Goals as goal
 
@@ -16,7 +13,7 @@ pub overflow_add-self : goal.overflow_add-self
 overflow_add-self c =
     let there = lent c.args.number c.self.inside.map c.get_mut.result c.in-Some.node c.get_mut.ensures.value c.in-Some.is in
     let total = sizes_all c.self.inside.map.entries c.get_mut.ensures.ordered ∙ ap bytes_of_all c.self.view_is in
-    let at = sym (ap (λ nodes. get nodes c.args.number) c.self.view_is) ∙ get_entry nat_cmp_total c.self.inside.map.entries c.args.number ∙ there in
+    let at = sym (ap (λ nodes. get nodes c.args.number) c.self.view_is) ∙ get-lookup nat_cmp_total c.self.inside.map.entries c.args.number ∙ there in
     let fits = fits_either c.resize-done.result c.in-Some.node.now.content c.resize-done.new.self (resizing c.args.size) (bytes_of_all c.args.self.now)
     (omega (arith, total, c.self.invariant.0, c.self.invariant.1)) (fits_after c.args.self.now c.args.number (resizing c.args.size) c.in-Some.node.now at c.requires) c.resize-done.ensures.ok c.resize-done.ensures.err in
     let small = size_le _ c.self.inside.map.entries c.in-Some.node.now there in
@@ -27,7 +24,7 @@ invariant_of-self c =
     let there = lent c.args.number c.self.inside.map c.get_mut.result c.in-Some.node c.get_mut.ensures.value c.in-Some.is in
     let new : Node = record { parent = c.in-Some.node.now.parent; holds = c.in-Some.node.now.holds; content = c.resize-done.new.self } in
     let total = sizes_all c.self.inside.map.entries c.get_mut.ensures.ordered ∙ ap bytes_of_all c.self.view_is in
-    let at = sym (ap (λ nodes. get nodes c.args.number) c.self.view_is) ∙ get_entry nat_cmp_total c.self.inside.map.entries c.args.number ∙ there in
+    let at = sym (ap (λ nodes. get nodes c.args.number) c.self.view_is) ∙ get-lookup nat_cmp_total c.self.inside.map.entries c.args.number ∙ there in
     let fits = fits_either c.resize-done.result c.in-Some.node.now.content c.resize-done.new.self (resizing c.args.size) (bytes_of_all c.args.self.now)
     (omega (arith, total, c.self.invariant.0, c.self.invariant.1)) (fits_after c.args.self.now c.args.number (resizing c.args.size) c.in-Some.node.now at c.requires) c.resize-done.ensures.ok c.resize-done.ensures.err in
     let sum = sizes_set _ c.self.inside.map.entries c.in-Some.node.now new there in

@@ -1,6 +1,5 @@
 use Rattle.std.proofs.Common.{◌≡◌, ◌-◌, length, reverse, take, drop, sym, ap, ◌∙◌, arith}
-use Rattle.wasm_validate.specs.Blocks.{OpenBlocks}
-use Rattle.wasm_validate.specs.View.{outer_of}
+use Rattle.wasm_validate.specs.Prelude.{OpenBlocks, outer_of}
 use Rattle.wasm_validate.proofs.StackLemmas.{drop-reverse}
 use Rattle.wasm_validate.proofs.blocks.Blocks.become_unreachable.Goals as goal
 

@@ -1,6 +1,5 @@
 use Rattle.std.proofs.Common.{reverse, drop, slice_get, Some, ap, ◌∙◌, arith}
-use Rattle.wasm_ast.specs.Typing.{label_of}
-use Rattle.wasm_validate.specs.Blocks.{OpenBlocks, labels_of}
+use Rattle.wasm_validate.specs.Prelude.{label_of, OpenBlocks, labels_of}
 use Rattle.wasm_validate.proofs.StackLemmas.{label_at, label_past}
 use Rattle.wasm_validate.proofs.blocks.Blocks.label.Goals as goal
 

@@ -1,7 +1,6 @@
 use Rattle.std.proofs.Common.{◌≡◌, drop}
 use Rattle.std.specs.List.{list_all}
-use Rattle.wasm_ast.specs.TypingModule.{is_element}
-use Rattle.wasm_validate.specs.Context.{context}
+use Rattle.wasm_validate.specs.Prelude.{is_element, context}
 use Rattle.wasm_validate.proofs.context.Context.are_elements.Given as goal
 
 abbrev pub invariant-loop-element : goal.invariant-loop-element

@@ -1,6 +1,5 @@
 use Rattle.std.proofs.Common.{◌≡◌, drop, length}
-use Rattle.wasm_ast.specs.TypingModule.{are_functions}
-use Rattle.wasm_validate.specs.Context.{context}
+use Rattle.wasm_validate.specs.Prelude.{are_functions, context}
 use Rattle.wasm_validate.proofs.context.Context.are_functions.Given as goal
 
 abbrev pub invariant-loop-i : goal.invariant-loop-i

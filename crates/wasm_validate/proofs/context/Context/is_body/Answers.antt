@@ -1,6 +1,5 @@
 use Rattle.std.proofs.Common.{Some, sym, ap, ◌∙◌}
-use Rattle.wasm_validate.specs.Context.{context}
-use Rattle.wasm_validate.specs.Algorithm.{fitting, behind}
+use Rattle.wasm_validate.specs.Prelude.{context, fitting, behind}
 use Rattle.wasm_validate.proofs.AlgorithmLemmas.{leave, body_typed, refused}
 use Rattle.wasm_validate.proofs.context.Context.is_body.Goals as goal
 

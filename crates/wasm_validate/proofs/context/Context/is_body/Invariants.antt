@@ -1,8 +1,5 @@
 use Rattle.std.proofs.Common.{◌≡◌, Some, length}
-use Rattle.wasm_ast.specs.Events.{events}
-use Rattle.wasm_validate.specs.Context.{context}
-use Rattle.wasm_validate.specs.Blocks.{first_block}
-use Rattle.wasm_validate.specs.Algorithm.{behind}
+use Rattle.wasm_validate.specs.Prelude.{events, context, first_block, behind}
 use Rattle.wasm_validate.proofs.context.Context.is_body.Given as goal
 
 -- what the events to come make of the open blocks

@@ -1,11 +1,11 @@
--- A step of the reader over what is left of an image.
+-- How the reader goes on over what is left of an image.
 use Rattle.std.specs.Prelude.{◌≡◌, ℕ, ◌<◌, List, ◌∷◌, length, slice_index, Some, None, Result, Ok, Err}
 use Rattle.file_tree.specs.FileTree.{FileTree}
 use Rattle.boot_image.specs.Image.{Remains, with_entry}
 use Rattle.boot_image.specs.NextItem as next
 use Rattle.boot_image.specs.NextItem.{Next}
-use Rattle.boot_image.specs.declared.read.Step.{Step}
-use Rattle.boot_image.specs.declared.read.Step.TheVariants.{Entry, Last}
+use Rattle.boot_image.specs.declared.read.Progress.{Progress}
+use Rattle.boot_image.specs.declared.read.Progress.TheVariants.{Entry, Last}
 use Rattle.boot_image.specs.declared.fault.ImageFault.{ImageFault}
 use Rattle.boot_image.specs.declared.fault.ImageFault.TheVariants.{NotImage, Memory}
 
@@ -24,14 +24,14 @@ pub record SameTrees (old : List ℕ) (before : FileTree) (new : List ℕ) (afte
 abbrev pub GivesNone : List ℕ → FileTree → Type 0
 GivesNone bytes before = (tree : FileTree) → Remains bytes before tree → ⊥
 
-abbrev pub Goes : Result Step ImageFault → List ℕ → FileTree → List ℕ → FileTree → Type 0
+abbrev pub Goes : Result Progress ImageFault → List ℕ → FileTree → List ℕ → FileTree → Type 0
 Goes (Ok Entry) old before new after = SameTrees old before new after
 Goes (Ok Last) old before new after = (old ≡ 0 ∷ new) × (after ≡ before)
 Goes (Err NotImage) old before new after = GivesNone old before
 Goes (Err Memory) old before new after = Unit {0}
 
 -- what an item gives a tree
-abbrev pub Makes : Next → Result Step ImageFault → FileTree → FileTree → Type 0
+abbrev pub Makes : Next → Result Progress ImageFault → FileTree → FileTree → Type 0
 Makes next.Last (Ok Last) before after = after ≡ before
 Makes (next.One entry) (Ok Entry) before after = with_entry before entry ≡ Some after
 Makes (next.One entry) (Err NotImage) before after = with_entry before entry ≡ None
