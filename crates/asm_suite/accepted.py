@@ -1,6 +1,7 @@
 """The texts that have a module."""
-import sys
-from instructions import ACCESSES, ATOMICS, NUMERIC, has_floats
+from lib.instructions import ACCESSES, ATOMICS, NUMERIC, of_integers
+from lib.modules import HEAD
+from lib.numbers import leb
 
 # Group, text, and a text of the same module for wat2wasm where it refuses the first, or the bytes of the module.
 CASES = []
@@ -24,17 +25,8 @@ def body(group, *texts, like=None):
         case(group, f"(module (func {text}))", None if like is None else f"(module (func {like}))")
 
 
-def number(n):
-    """An unsigned number in LEB128."""
-    out = bytearray()
-    while n >= 128:
-        out.append(n % 128 + 128)
-        n //= 128
-    return bytes(out + bytes([n]))
-
-
 def section_of_start(index):
-    return b"\0asm\1\0\0\0\x08" + number(len(number(index))) + number(index)
+    return HEAD + b"\x08" + leb(len(leb(index))) + leb(index)
 
 
 # ---- instructions
@@ -46,8 +38,7 @@ TABLE = [("unreachable", ""), ("nop", ""), ("br 0", ""), ("br_if 0", "i"), ("br_
          ("call 0", ""), ("call_indirect (type 0)", "i"), ("drop", "i"), ("select", "lli"), ("local.get 0", ""),
          ("local.set 1", "l"), ("local.tee 0", "i"), ("global.get 0", ""), ("global.set 1", "l"), ("memory.size", ""),
          ("memory.grow", "i"), ("i32.const 7", ""), ("i64.const 7", ""), ("atomic.fence", "")]
-TABLE += [(name, takes) for name, _, takes, gives in NUMERIC if not has_floats(name, takes, gives)]
-TABLE += [(name, takes) for name, _, takes, gives, _ in ACCESSES + ATOMICS if not has_floats(name, takes, gives)]
+TABLE += [(name, takes) for name, _, takes, *_ in of_integers(NUMERIC + ACCESSES + ATOMICS)]
 
 for name, takes in TABLE:
     body("plain instructions", " ".join([CONSTANT[t][1:-1] for t in takes] + [name]))
@@ -62,8 +53,7 @@ body("folded instructions", "(i32.add (i32.mul (i32.const 2) (i32.const 3)) (i32
 
 # ---- accesses
 
-NATURAL = [(name, exponent) for name, _, takes, gives, exponent in ACCESSES + ATOMICS if not has_floats(name, takes, gives)]
-for name, exponent in NATURAL:
+for name, _, _, _, exponent in of_integers(ACCESSES + ATOMICS):
     body("memory arguments", f"{name} offset=1 align={2 ** exponent} {name} align={2 ** exponent} {name} offset=16")
 for k in range(32):
     body("memory arguments", f"i32.load align={2 ** k}")
@@ -220,19 +210,24 @@ case("identifiers", "(module $f (func $f call $f))")
 
 # ---- long texts, whose modules are written here
 
-HEADER = "0061736d01000000"
+HEADER = HEAD.hex()
+
+
+def sized(content):
+    """Parts, hexadecimal digits and such with a count, with the number of their bytes before them."""
+    size = sum(len(part) // 2 if isinstance(part, str) else len(part[0]) // 2 * part[1] for part in content)
+    return [leb(size).hex()] + content
 
 
 def section(kind, content):
-    """A section of parts: hexadecimal digits, and such with a count."""
-    size = sum(len(part) // 2 if isinstance(part, str) else len(part[0]) // 2 * part[1] for part in content)
-    return [f"{kind:02x}" + number(size).hex()] + content
+    first, *rest = sized(content)
+    return [f"{kind:02x}{first}"] + rest
 
 
 def function(instructions):
     """A module of one function without parameters, locals and results."""
-    size = sum(len(part) // 2 if isinstance(part, str) else len(part[0]) // 2 * part[1] for part in instructions) + 2
-    return [HEADER + "010401600000" + "03020100"] + section(10, ["01" + number(size).hex() + "00"] + instructions + ["0b"])
+    first, second, *rest = sized(["00"] + instructions + ["0b"])
+    return [HEADER + "010401600000" + "03020100"] + section(10, ["01" + first + second] + rest)
 
 
 def long_case(module, text):
@@ -249,9 +244,9 @@ long_case(function([("0240", 500000), ("0b", 500000)]), ["(module (func ", ("(bl
 long_case(function([("0340", 400000), ("0b", 400000)]), ["(module (func ", ("loop ", 400000), ("end ", 400000), "))"])
 long_case(function([("0440", 200000), ("0b", 200000)]), ["(module (func ", ("if ", 200000), ("else end ", 200000), "))"])
 long_case(function([("0340", 300000), ("0c00", 1), ("0b", 300000)]), ["(module (func ", ("(loop $a ", 300000), "(br $a)", (")", 300000), "))"])
-long_case([HEADER + "010401600000"] + section(3, [number(400000).hex(), ("00", 400000)]) + section(10, [number(400000).hex(), ("02000b", 400000)]),
+long_case([HEADER + "010401600000"] + section(3, [leb(400000).hex(), ("00", 400000)]) + section(10, [leb(400000).hex(), ("02000b", 400000)]),
           ["(module ", ("(func)\n", 400000), ")"])
-long_case([HEADER] + section(11, ["0100" + "41000b" + number(4000000).hex(), ("61", 4000000)]),
+long_case([HEADER] + section(11, ["0100" + "41000b" + leb(4000000).hex(), ("61", 4000000)]),
           ["(module (data (i32.const 0) \"", ("a", 4000000), "\"))"])
-long_case([HEADER] + section(11, ["0100" + "41000b" + number(1000000).hex(), ("00", 1000000)]),
+long_case([HEADER] + section(11, ["0100" + "41000b" + leb(1000000).hex(), ("00", 1000000)]),
           ["(module (data (i32.const 0) \"", ("\\00", 1000000), "\"))"])

@@ -14,30 +14,15 @@ src/notation.rt.
 """
 import glob
 import os
-import subprocess
 import sys
-import tempfile
 
 sys.dont_write_bytecode = True
-HERE = os.path.dirname(os.path.abspath(__file__))
-sys.path.append(os.path.join(HERE, "..", "module_suite"))
+HERE = sys.path[0]
+sys.path.append(HERE + "/../../suites")
 import accepted
 import refused
-
-WABT = ["wat2wasm", "--enable-threads", "--disable-saturating-float-to-int", "--disable-sign-extension", "--disable-simd",
-        "--disable-multi-value", "--disable-bulk-memory", "--disable-reference-types", "--no-check"]
-
-
-def assembled(text, folder):
-    """The module of a text by wat2wasm, or what it says against it."""
-    source, target = os.path.join(folder, "a.wat"), os.path.join(folder, "a.wasm")
-    with open(source, "wb") as file:
-        file.write(text)
-    done = subprocess.run([*WABT, source, "-o", target], capture_output=True, text=True, errors="replace")
-    if done.returncode:
-        return None, done.stderr
-    with open(target, "rb") as file:
-        return file.read(), ""
+from lib.cases import written
+from lib.wabt import assembled
 
 
 def spelled(text):
@@ -54,54 +39,43 @@ def parts(text):
 
 
 def check():
-    with tempfile.TemporaryDirectory() as folder:
-        for group, kind, line, text in refused.CASES:
-            if isinstance(text, bytes) and assembled(text, folder)[0] is not None:
-                print(f"{group}, {kind} {line}: {text!r}")
+    for group, kind, line, text in refused.CASES:
+        if isinstance(text, bytes) and assembled(text)[0] is not None:
+            print(f"{group}, {kind} {line}: {text!r}")
 
 
 def main():
-    lines, groups, faults = [], {}, 0
+    lines, groups, faults = [], {}, []
 
     def case(group, expected, text, refusal):
         lines.append(f"{group}\t{expected}\t{text}")
         groups.setdefault(group, [0, 0])[refusal] += 1
 
-    with tempfile.TemporaryDirectory() as folder:
-        for group, text, like in accepted.CASES:
-            if like and like.startswith(b"\0asm"):
-                module = like
-            else:
-                module, why = assembled(like or text, folder)
-            if module is None:
-                faults += 1
-                print(f"{group}: wat2wasm refuses {text!r}: {why}")
-            elif like and assembled(text, folder)[0] == module:
-                faults += 1
-                print(f"{group}: no second text needed for {text!r}")
-            else:
-                case(group, module.hex(), parts(text), 0)
-        for path in sorted(glob.glob(os.path.join(HERE, "data", "*.wat"))):
-            name = os.path.basename(path)[:-4]
-            with open(path, "rb") as file:
-                module, why = assembled(file.read(), folder)
-            if module is None:
-                faults += 1
-                print(f"{name}: wat2wasm refuses it: {why}")
-                continue
-            with open(os.path.join(HERE, "data", name + ".wasm"), "wb") as file:
-                file.write(module)
-            case("programs", f"@{name}.wasm", f"@{name}.wat", 0)
+    for group, text, like in accepted.CASES:
+        module, why = (like, "") if like and like.startswith(b"\0asm") else assembled(like or text)
+        if module is None:
+            faults.append(f"{group}: wat2wasm refuses {text!r}: {why}")
+        elif like and assembled(text)[0] == module:
+            faults.append(f"{group}: no second text needed for {text!r}")
+        else:
+            case(group, module.hex(), parts(text), 0)
+    for path in sorted(glob.glob(os.path.join(HERE, "data", "*.wat"))):
+        name = os.path.basename(path)[:-4]
+        with open(path, "rb") as file:
+            module, why = assembled(file.read())
+        if module is None:
+            faults.append(f"{name}: wat2wasm refuses it: {why}")
+            continue
+        with open(os.path.join(HERE, "data", name + ".wasm"), "wb") as file:
+            file.write(module)
+        case("programs", f"@{name}.wasm", f"@{name}.wat", 0)
     for group, module, text in accepted.LONG:
         case(group, parts(module), parts(text), 0)
     for group, kind, line, text in refused.CASES:
         case(group, f"{kind} {line}", parts(text), 1)
-    with open(os.path.join(HERE, "data", "texts.txt"), "w", encoding="ascii", newline="\n") as file:
-        file.write("\n".join(lines) + "\n")
-    with open(os.path.join(HERE, "stdout"), "w", encoding="ascii", newline="\n") as file:
-        for group, (modules, refusals) in groups.items():
-            file.write(f"{group}: {modules} modules, {refusals} refusals\n")
-    print(f"{len(lines)} cases")
+    written("data/texts.txt", lines)
+    written("stdout", [f"{group}: {modules} modules, {refusals} refusals" for group, (modules, refusals) in groups.items()])
+    print("\n".join([*faults, f"{len(lines)} cases"]))
     return 1 if faults else 0
 
 

@@ -1,5 +1,5 @@
 """The texts that have no module: for each the kind of its fault and its line, by the rules of docs/TEXT_FORMAT.md."""
-from instructions import ACCESSES, NUMERIC, has_floats
+from lib.instructions import ACCESSES, NUMERIC, has_floats
 
 # Group, kind, line, text: bytes, or parts with counts.
 CASES = []

@@ -1,8 +1,11 @@
 #!/usr/bin/env python3
 """Writes the cases of images and pack lists, and the lines that are expected of them.
 
-The rules below are those of docs/BOOT_IMAGE.md, written again: nothing here comes from the project's code.
-Run in this folder: it writes data/cases.txt and stdout."""
+The rules below are those of docs/BOOT_IMAGE.md, written again: nothing here comes from the project's code."""
+import sys
+
+sys.path.append(sys.path[0] + "/../../suites")
+from lib.cases import Suite
 
 MOST_NODES = 16384
 MOST_BYTES = 67108864
@@ -110,19 +113,19 @@ def shown(name, tree):
     return f"{name}: image {written.hex()}" if len(written) <= 4096 else f"{name}: image of {len(written)} bytes"
 
 
-cases, expected = [], []
+SUITE = Suite("cases.txt")
 
 
 def one_image(name, data, spelled=None):
-    cases.append(f"{name}: image {spelled or data.hex()}")
+    SUITE.rows.append(f"{name}: image {spelled or data.hex()}")
     tree = read(data)
-    expected.append(f"{name}: no image" if tree is None else shown(name, tree))
+    SUITE.lines.append(f"{name}: no image" if tree is None else shown(name, tree))
 
 
 def one_list(name, text, spelled=None):
-    cases.append(f"{name}: list {spelled or text.hex()}")
+    SUITE.rows.append(f"{name}: list {spelled or text.hex()}")
     tree = judge(text)
-    expected.append(f"{name}: wrong line {tree}" if isinstance(tree, int) else shown(name, tree))
+    SUITE.lines.append(f"{name}: wrong line {tree}" if isinstance(tree, int) else shown(name, tree))
 
 
 ROOT = image()
@@ -229,7 +232,4 @@ for name, path in WRONG.items():
         one_list(f"listed {name}", b"dir /d\ndir " + path + b"\n")
 for count in (MOST_NODES - 1, MOST_NODES):
     one_list(f"list of {count} directories", b"".join(b"dir /%05d\n" % number for number in range(count)), f"{b'dir /'.hex()}%{count}%0a")
-
-open("data/cases.txt", "w").write("\n".join(cases) + "\n")
-open("stdout", "w").write("\n".join(expected) + "\n")
-print(len(cases), "cases")
+SUITE.write()

@@ -1,5 +1,6 @@
 """Cases of the binary format (chapter 5): what is malformed, what has floats, what passes a limit, what is written."""
-from instructions import *
+from lib.instructions import *
+from lib.numbers import leb, sleb
 from spelling import *
 
 LINES.append("# The cases of the module suite, written by make_cases.py. src/notation.rt says how bytes are written.")

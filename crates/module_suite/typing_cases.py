@@ -1,5 +1,6 @@
 """Cases of validation (chapter 3)."""
-from instructions import *
+from lib.instructions import *
+from lib.numbers import leb
 from spelling import *
 
 title("Each instruction: what it gives, with a wrong operand, with one too few, with its immediates (3.3)")

@@ -5,19 +5,21 @@ ARGUMENT..`, then `answers ANSWER..` for the calls, waits and notifies at which 
 LENGTH` for what the memory has in the end. `marked` in place of `run` is a thread whose handler's frame found no room. The answer
 is, for each time the thread stood, how many steps were run and at what it stands.
 
-What is expected comes from machine.py, which has the rules of steps and nothing of this project's code. Run it in this folder.
+What is expected comes from machine.py, which has the rules of steps and nothing of this project's code.
 """
 
-from binary import ATOMIC, ACCESS, COMPARE, INTEGER, Module
-from machine import NUMERIC, Thread, numeric
+import sys
 
-rows, lines = [], []
+sys.path.append(sys.path[0] + "/../../suites")
+from lib.cases import Suite
+from lib.instructions import ATOMICS, NUMERIC, of_integers
+from lib.modules import Module
+from lib.numbers import numeric
+from machine import ACCESS, ATOMIC, PAGE, Thread
+
+SUITE = Suite("steps.txt", "# The cases of the suite of steps, written by make_cases.py, which says what they are. The answers are in the file stdout.")
+rows, lines, note = SUITE.rows, SUITE.lines, SUITE.note
 current = None
-
-
-def note(text):
-    rows.append("")
-    rows.append("# " + text)
 
 
 def module(name, **parts):
@@ -78,6 +80,7 @@ def i64(n):
     return ("i64.const", n)
 
 
+TYPES = {"i": "i32", "l": "i64"}
 CORNERS = {"i32": [0, 1, 2, 31, 32, 33, 0x7FFFFFFF, 0x80000000, 0x80000001, 0xFFFFFFFF, 0x12345678],
            "i64": [0, 1, 63, 64, 65, 0x7FFFFFFFFFFFFFFF, 0x8000000000000000, 0x8000000000000001, 0xFFFFFFFFFFFFFFFF,
                    0x80000000, 0xFFFFFFFF, 0x123456789ABCDEF0]}
@@ -86,10 +89,10 @@ PAIRS = {of: [(a, b) for a in cs for b in (cs if of == "i32" else cs[:9])] for o
 
 def numeric_cases():
     """An operator over the parameters, and a call of an imported function that shows the result."""
-    for name, count in NUMERIC.items():
+    table = of_integers(NUMERIC)
+    for name, _, letters, result in [row for row in table if "_i" in row[0]] + [row for row in table if "_i" not in row[0]]:
         prefix, op = name.split(".")
-        takes = {"wrap_i64": "i64", "extend_i32_s": "i32", "extend_i32_u": "i32"}.get(op, prefix)
-        gives = "i32" if op in COMPARE else prefix
+        count, takes, gives = len(letters), TYPES[letters[0]], TYPES[result]
         module(name, types=[([takes] * count, []), ([gives], [])], imports=[1],
                functions=[(0, [], get(*range(count)) + [(name,), ("call", 0)])])
         if count == 1:
@@ -151,13 +154,11 @@ note("Each numeric instruction: its operands are the arguments, and a call shows
 numeric_cases()
 
 
-PAGE = 65536
-
 
 def access_cases():
     """A load or store through an address in the first parameter, over a memory of one page that two stores filled."""
     fill = [i32(0), i64(0xF7E6D5C4B3A29180), ("i64.store", 64), i32(0), i64(0x8899AABBCCDDEEFF), ("i64.store", PAGE - 8)]
-    for name, (_, width) in ACCESS.items():
+    for name, width in ACCESS.items():
         of = name.split(".")[0]
         if "load" in name:
             for offset in (0, 3):
@@ -202,10 +203,9 @@ def access_cases():
 
 def atomic_cases():
     fill = [i32(0), i64(0xF7E6D5C4B3A29180), ("i64.store", 64)]
-    for name, (_, width) in ATOMIC.items():
-        of = name.split(".")[0]
-        if of == "memory":
-            continue
+    # One type and width after the other, of which each kind of access has seven opcodes.
+    for name, *_ in sorted(ATOMICS[3:], key=lambda row: (int(row[1][3:], 16) - 0x10) % 7):
+        of, width = name.split(".")[0], ATOMIC[name]
         if ".load" in name:
             module(name, types=[(["i32"], []), ([of], [])], imports=[1], memory=(1, 1),
                    functions=[(0, [], fill + get(0) + [(name, 2), ("call", 0)])])
@@ -496,9 +496,4 @@ note("Control")
 control_cases()
 call_cases()
 full_cases()
-
-head = ["# The cases of the suite of steps, written by make_cases.py, which says what they are. The answers are in the file stdout."]
-with open("data/steps.txt", "w") as file:
-    file.write("\n".join(head + rows) + "\n")
-with open("stdout", "w") as file:
-    file.write("\n".join(lines) + "\n")
+SUITE.write()
