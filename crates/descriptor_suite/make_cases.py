@@ -10,17 +10,13 @@ number. The kinds are input, output, errors, root, reading, writing, and else th
 import sys
 
 sys.path.append(sys.path[0] + "/../../suites")
-from lib.cases import Suite
+from lib.cases import Refused, Suite, refuse
 
 CAPACITY, PIPE_BUF = 65536, 4096
 SIZES = [0, 1, 4095, 4096, 4097, 65535, 65536]
 BADF, INVAL, ISDIR, MFILE, NFILE, FBIG, SPIPE, NOTCAPABLE = 8, 28, 31, 33, 41, 22, 70, 76
 MOST = 67108864
 NAMES = {"root": "directory", "reading": "reading end", "writing": "writing end", "input": "input", "output": "output", "errors": "errors"}
-
-
-class Refused(Exception):
-    """A refusal, of an error number."""
 
 
 def pipe_write(held, count, left):
@@ -61,8 +57,7 @@ class Process:
         return "none" if self.free() is None else self.free()
 
     def at(self, fd):
-        if fd not in self.table:
-            raise Refused(BADF)
+        refuse(BADF, fd not in self.table)
         return self.table[fd][0]
 
     def put_lowest(self, d):
@@ -83,8 +78,7 @@ class Process:
     def new_description(self, kind, flags, rights):
         if kind not in NAMES:
             self.files.setdefault(kind, b"")
-        if len(self.descriptions) == 1024:
-            raise Refused(NFILE)
+        refuse(NFILE, len(self.descriptions) == 1024)
         self.descriptions.append(Description(kind, flags, rights))
         return self.descriptions[-1]
 
@@ -110,8 +104,7 @@ class Process:
 
     def renumber(self, a, b):
         self.at(a)
-        if b >= 128:
-            raise Refused(BADF)
+        refuse(BADF, b >= 128)
         if a == b:
             return "closes nothing"
         displaced = self.table.get(b)
@@ -141,10 +134,8 @@ class Process:
     def usable(self, fd, right, kinds):
         """The description, unless it is refused before anything moves."""
         d = self.at(fd)
-        if d.kind == "root":
-            raise Refused(ISDIR)
-        if not d.rights & right or d.kind in kinds:
-            raise Refused(NOTCAPABLE)
+        refuse(ISDIR, d.kind == "root")
+        refuse(NOTCAPABLE, not d.rights & right or d.kind in kinds)
         return d
 
     def read(self, fd, count):
@@ -170,8 +161,7 @@ class Process:
         if data and d.kind not in ("output", "errors"):
             old = self.files[d.kind]
             start = len(old) if d.flags & 1 else d.offset
-            if start + len(data) > MOST:
-                raise Refused(FBIG)
+            refuse(FBIG, start + len(data) > MOST)
             self.files[d.kind] = old[:start].ljust(start, b"\0") + data + old[start + len(data):]
             d.offset = start + len(data)
         return f"took {len(data)}"
@@ -184,15 +174,11 @@ class Process:
 
     def seek(self, fd, delta, whence):
         d = self.at(fd)
-        if d.kind == "root":
-            raise Refused(ISDIR)
-        if d.kind in NAMES:
-            raise Refused(SPIPE)
-        if whence > 2:
-            raise Refused(INVAL)
+        refuse(ISDIR, d.kind == "root")
+        refuse(SPIPE, d.kind in NAMES)
+        refuse(INVAL, whence > 2)
         offset = [0, d.offset, len(self.files[d.kind])][whence] + delta
-        if not 0 <= offset < 2**63:
-            raise Refused(INVAL)
+        refuse(INVAL, not 0 <= offset < 2**63)
         d.offset = offset
         return offset
 

@@ -3,11 +3,15 @@
 A memory is a bytearray of whole pages (WebAssembly Core 1.0, 4.2.8). Loads, stores and growth are those of 4.4.4, the
 atomic accesses those of the threads proposal; numbers stand in memory with their lowest byte first (4.3.1). A compare and
 exchange compares the loaded value with the whole expected operand.
+
+    python3 make_cases.py            writes them
+    python3 make_cases.py --check    asks wabt's interpreter (Debian's package wabt) for the answers
 """
 
 import sys
 
 sys.path.append(sys.path[0] + "/../../suites")
+from lib import wabt
 from lib.cases import Suite
 from lib.numbers import MODIFY
 
@@ -129,4 +133,54 @@ note("Ranges, and a copy")
 do("memory 1 2", "write 0 65", f"write {PAGE - 4} 66", f"write {PAGE - 3} 67", f"write {PAGE} 68", "write 4294967295 69", "bytes 0 6",
    f"bytes {PAGE - 5} 5", f"bytes {PAGE - 5} 6", f"bytes {PAGE} 0", f"bytes {PAGE + 1} 0", "bytes 4294967295 4294967295", "copy",
    "bytes 0 6", f"bytes {PAGE - 4} 4", "grow 1", "grow 1")
-SUITE.write()
+
+ATOMICS = {**{name: f"rmw{{}}.{name}" for name in MODIFY}, "exchange": "rmw{}.xchg", "compare_exchange": "rmw{}.cmpxchg"}
+TRAPS = {"Misaligned": "unaligned atomic", "OutOfBounds": "out of bounds memory access"}
+
+
+def functions():
+    """A function for each access at each width, of an address and values of 64 bits."""
+    for width in (1, 2, 4, 8):
+        bits, low = (8 * width, "_u") if width < 8 else ("", "")
+        yield f'(func (export "load {width}") (param i32) (result i64) (i64.load{bits}{low} (local.get 0)))'
+        yield f'(func (export "store {width}") (param i32 i64) (i64.store{bits} (local.get 0) (local.get 1)))'
+        for name, of in ATOMICS.items():
+            values = 2 if name == "compare_exchange" else 1
+            words = " ".join(f"(local.get {place})" for place in range(values + 1))
+            types = "i64 " * values
+            yield f'(func (export "{name} {width}") (param i32 {types}) (result i64) (i64.atomic.{of.format(bits)}{low} {words}))'
+    yield '(func (export "size") (result i32) memory.size)'
+    yield '(func (export "grow") (param i32) (result i32) (memory.grow (local.get 0)))'
+    yield '(func (export "write") (param i32 i32) (i32.store (local.get 0) (i32.mul (local.get 1) (i32.const 0x01010101))))'
+
+
+def assertions(row, answer):
+    """What the standard's kind of script says of a row. It has no address past 2^32, no copy, and no memory whose maximum is below
+    its size; and wabt 1.0.32 compares with the low bits of an expected operand alone."""
+    global is_valid
+    name, *words = row.split()
+    if name == "memory":
+        is_valid = int(words[0]) <= int(words[1])
+        return [f"(module (memory {words[0]} {min(int(words[1]), MOST)}) {' '.join(functions())})"] if is_valid else []
+    if not is_valid or name == "copy" or name in ("load", "store", *ATOMICS) and int(words[1]) >= 2**32 \
+            or name == "compare_exchange" and int(words[2], 16) >= 2 ** (8 * int(words[0])):
+        return []
+    if name == "bytes":
+        return [f'(assert_return (invoke "load 1" (i32.const {int(words[0]) + place})) (i64.const {byte}))'
+                for place, byte in enumerate(bytes.fromhex(answer) if answer != "outside" else b"")]
+    function = name if name in ("size", "grow", "write") else f"{name} {words.pop(0)}"
+    of = "i32" if name in ("size", "grow", "write") else "i64"
+    call = f'(invoke "{function}"' + "".join(
+        f" ({of if place else 'i32'}.const {'0x' if of == 'i64' and place else ''}{word})" for place, word in enumerate(words)) + ")"
+    if answer in TRAPS:
+        return [f'(assert_trap {call} "{TRAPS[answer]}")']
+    given = "" if answer == "done" else f" ({of}.const {'0x' if of == 'i64' else ''}{answer})"
+    return [f"(assert_return {call}{given})"]
+
+
+def check():
+    asked = [assertions(*line.split(": ")) for line in SUITE.lines]
+    return wabt.told(SUITE, sum(map(bool, asked)), wabt.failing([line for lines in asked for line in lines]))
+
+
+sys.exit(check()) if sys.argv[1:] == ["--check"] else SUITE.write()

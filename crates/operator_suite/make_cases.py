@@ -1,7 +1,8 @@
 #!/usr/bin/env python3
 """Writes the rows of the operator suite, data/operators.txt, and the lines that are expected of them, stdout.
 
-    python3 make_cases.py
+    python3 make_cases.py            writes them
+    python3 make_cases.py --check    asks wabt's interpreter (Debian's package wabt) for the answers of operators and of signed numbers
 
 The values are computed with Python's integers, which have no bound, by the definitions of WebAssembly Core 1.0,
 sections 4.3.2 and 4.3.4, those of numbers by section 5.2.2, and the atomic ones by the threads proposal. Nothing
@@ -13,7 +14,10 @@ here knows of the project's code.
 import sys
 
 sys.path.append(sys.path[0] + "/../../suites")
+from lib import wabt
 from lib.cases import Suite
+from lib.instructions import NUMERIC, of_integers
+from lib.modules import Module, sized
 from lib.numbers import BINARY, COMPARISONS, MODIFY, Trap, UNARY, numeric
 
 SUITE = Suite("operators.txt", "# The rows of the operator suite, written by make_cases.py, which says what they are. The answers are in the",
@@ -123,4 +127,50 @@ for name, size in (("byte", 1), ("two bytes", 2), ("four bytes", 4), ("eight byt
             enough = len(data) >= size
             reading(name, data, int.from_bytes(data[:size], "little") if enough else "end", size if enough else 0)
 
-SUITE.write()
+# ----------------------------------------------------------------------- wabt
+
+TYPES = {"i": "i32", "l": "i64"}
+SIGNATURES = {name: (takes, gives) for name, _, takes, gives in of_integers(NUMERIC)}
+SIGNATURES |= {f"{width}.{modify}": ("ll", "l") for width in ("rmw8", "rmw16", "rmw32", "rmw") for modify in MODIFY}
+TRAPS = {"divide by zero": "integer divide by zero", "overflow": "integer overflow"}
+
+
+def assertion(line):
+    """What the standard's kind of script says of a line, or None where a script can't say it."""
+    row, answer = line.split(": ")
+    name, *words = row.split(" ")
+    if name in SIGNATURES:
+        takes, gives = SIGNATURES[name]
+        call = f'(invoke "{name}" ' + " ".join(f"({TYPES[of]}.const 0x{word})" for of, word in zip(takes, words)) + ")"
+        return f'(assert_trap {call} "{TRAPS[answer]}")' if answer in TRAPS else f"(assert_return {call} ({TYPES[gives]}.const 0x{answer}))"
+    if name not in ("i32", "i64"):
+        return None
+    answer, left = answer.removesuffix(" left").split(", ")
+    data = bytes.fromhex("".join(words[1:len(words) - int(left)]))
+    # Up to the size of the code section.
+    module = Module([([], [name])], [(0, [], [])]).bytes(exports=[("f", 0)])[:-5]
+    code = b"\x00" + bytes([0x41 if name == "i32" else 0x42]) + data + (b"\x0b" if answer.lstrip("-").isdigit() else b"")
+    spelled = "".join(f"\\{byte:02x}" for byte in module + sized(b"\1" + sized(code)))
+    if answer in ("end", "too long"):
+        return f'(assert_malformed (module binary "{spelled}") "{answer}")'
+    return f'(module binary "{spelled}") (assert_return (invoke "f") ({name}.const {answer}))'
+
+
+def check():
+    functions = []
+    for name, (takes, gives) in SIGNATURES.items():
+        words = " ".join(f"(local.get {place})" for place in range(len(takes)))
+        body = f"({name} {words})"
+        if name.startswith("rmw"):
+            of = name.replace("rmw.", "i64.atomic.rmw.") if name.startswith("rmw.") else f"i64.atomic.{name}_u"
+            load = "i64.load" + (f"{name[3:].partition('.')[0]}_u" if name[3] != "." else "")
+            body = f"(i64.store (i32.const 0) (local.get 0)) (drop ({of} (i32.const 0) (local.get 1))) ({load} (i32.const 0))"
+        types = " ".join(TYPES[of] for of in takes)
+        functions.append(f'(func (export "{name}") (param {types}) (result {TYPES[gives]}) {body})')
+    found = {line: assertion(line) for line in SUITE.lines}
+    # Those that bring a module of their own come last.
+    asked = sorted(filter(None, found.values()), key=lambda text: text.startswith("(module"))
+    return wabt.told(SUITE, len(asked), wabt.failing([f"(module (memory 1) {' '.join(functions)})", *asked]))
+
+
+sys.exit(check()) if sys.argv[1:] == ["--check"] else SUITE.write()

@@ -46,10 +46,6 @@ class Thread:
     def values(self):
         return sum(len(f.locals) + len(f.operands) for f in self.frames)
 
-    def type_of(self, x):
-        n = len(self.m.imports)
-        return self.m.types[self.m.imports[x] if x < n else self.m.functions[x - n][0]]
-
     def at(self):
         """The next instruction of the innermost frame, or None at the end of a list."""
         body, k = self.frames[-1].code
@@ -94,7 +90,7 @@ class Thread:
     def call(self, x, over):
         """A call, with so many operands above its arguments."""
         f = self.frames[-1]
-        params, results = self.type_of(x)
+        params, results = self.m.type_of(x)
         if x < len(self.m.imports):
             if self.values() - over - len(params) + len(results) > 65536:
                 raise Trap("StackFull")
@@ -134,7 +130,7 @@ class Thread:
         """Answers what the thread stands at: takes its operands, puts the value there, if any, and goes behind it."""
         f, i = self.frames[-1], self.at()
         if i[0] == "call":
-            taken = len(self.type_of(i[1])[0])
+            taken = len(self.m.type_of(i[1])[0])
         elif i[0] == "call_indirect":
             taken = len(self.m.types[i[1]][0]) + 1
         else:
@@ -192,7 +188,7 @@ class Thread:
             x = self.element(ops[-1])
             if x is None:
                 raise Trap("UninitializedElement")
-            if self.m.types[i[1]] != self.type_of(x):
+            if self.m.types[i[1]] != self.m.type_of(x):
                 raise Trap("TypeMismatch")
             return self.call(x, 1)
         elif name == "memory.atomic.notify":

@@ -6,11 +6,16 @@ LENGTH` for what the memory has in the end. `marked` in place of `run` is a thre
 is, for each time the thread stood, how many steps were run and at what it stands.
 
 What is expected comes from machine.py, which has the rules of steps and nothing of this project's code.
+
+    python3 make_cases.py            writes them
+    python3 make_cases.py --check    asks wabt's interpreter (Debian's package wabt) for the calls and the end of each row
 """
 
+import re
 import sys
 
 sys.path.append(sys.path[0] + "/../../suites")
+from lib import wabt
 from lib.cases import Suite
 from lib.instructions import ATOMICS, NUMERIC, of_integers
 from lib.modules import Module
@@ -20,12 +25,14 @@ from machine import ACCESS, ATOMIC, PAGE, Thread
 SUITE = Suite("steps.txt", "# The cases of the suite of steps, written by make_cases.py, which says what they are. The answers are in the file stdout.")
 rows, lines, note = SUITE.rows, SUITE.lines, SUITE.note
 current = None
+CHECKS = sys.argv[1:] == ["--check"]
+asked = []
 
 
 def module(name, **parts):
     global current
     current = Module(**parts)
-    current.name = name
+    current.name, current.parts = name, parts
     rows.append(f"{name} = {current.bytes().hex()}")
 
 
@@ -66,6 +73,52 @@ def run(function, *arguments, answers=(), shows=None, marked=False, expect=None)
     assert expect is None or answer == expect, (words, answer, expect)
     rows.append(" ".join(words))
     lines.append(f"{current.name}: {' '.join(words)}: {answer}")
+    if CHECKS and not marked and is_askable(arguments, answers, answer):
+        asked.append((lines[-1], started(function, arguments), [of.split(" ", 1)[1] for of in found if of != found[-1] or not shows]))
+
+
+def is_askable(arguments, answers, answer):
+    """Whether wabt's interpreter has an answer: it has no limits of these numbers, no other threads and no fence; its imported functions
+    give 0; and it compares with the low bits of an expected operand alone."""
+    is_wide = re.search(r"rmw(8|16|32)\.cmpxchg", current.name) and arguments[1] >= 2 ** (8 * ATOMIC[current.name])
+    return not (is_wide or any(answers) or "StackFull" in answer or current.name.startswith(("memory.atomic", "fence", "grow unbounded")))
+
+
+def started(function, arguments):
+    """The module with an exported function that calls one with these arguments."""
+    parts = current.parts
+    takes, gives = current.type_of(function)
+    body = [(f"{of}.const", n) for of, n in zip(takes, arguments)] + [("call", function)] + [("drop",)] * len(gives)
+    types, functions = [*parts["types"], ([], [])], [*parts["functions"], (len(parts["types"]), [], body)]
+    return Module(**{**parts, "types": types, "functions": functions}).bytes([("f", len(parts.get("imports", ())) + len(functions) - 1)])
+
+
+TRAPS = {"unreachable executed": "Unreachable", "integer divide by zero": "DivideByZero", "integer overflow": "Overflow",
+         "out of bounds memory access": "OutOfBounds", "invalid atomic access": "Misaligned", "undefined table": "UndefinedElement",
+         "uninitialized table": "UninitializedElement", "indirect call": "TypeMismatch"}
+
+
+def by_wabt(module):
+    """The calls that wabt's interpreter makes, and how the run ends; None where it doesn't load the module."""
+    out = wabt.on_bytes("wasm-interp", module, "--dummy-import-func", "--run-all-exports")[1]
+    calls = re.findall(r"^called host h\.f(\d+)\((.*)\) =>", out, re.M)
+    told = [f"call {k} ({' '.join(f'{int(n):x}' for n in re.findall(r'i..:([0-9]+)', words))})" for k, words in calls]
+    end = re.search(r"^f\(\) =>(?: error: (.*))?", out, re.M)
+    trap = end and end[1] and next((name for text, name in TRAPS.items() if text in end[1]), end[1])
+    return end and told + [f"trap {trap}" if trap else "finished"]
+
+
+def check():
+    """A row that ends at a call has the calls up to there alone. wabt doesn't say which fault an atomic access has."""
+    differing, loaded = [], 0
+    for line, module, found in asked:
+        answer = by_wabt(module)
+        loaded += answer is not None
+        if answer and answer[-1] == "trap Misaligned" and found[-1] == "trap OutOfBounds":
+            answer[-1] = found[-1]
+        if answer and answer != found and (not found[-1].startswith("call") or answer[:len(found)] != found):
+            differing.append(f"{line}; wabt: {answer}")
+    return wabt.told(SUITE, loaded, differing)
 
 
 def get(*indices):
@@ -496,4 +549,4 @@ note("Control")
 control_cases()
 call_cases()
 full_cases()
-SUITE.write()
+sys.exit(check()) if CHECKS else SUITE.write()

@@ -4,6 +4,15 @@ import os
 import sys
 
 
+class Refused(Exception):
+    """A refusal, of an error number."""
+
+
+def refuse(error, where):
+    if where:
+        raise Refused(error)
+
+
 class Suite:
     """Its rows go to data/NAME and its lines to stdout, beside the script that runs."""
 
@@ -33,5 +42,5 @@ class Suite:
 
 
 def written(name, lines):
-    with open(os.path.join(sys.path[0], name), "w", encoding="ascii", newline="\n") as file:
+    with open(os.path.join(sys.path[0], name), "w", encoding="utf-8", newline="\n") as file:
         file.write("\n".join(lines) + "\n")

@@ -90,6 +90,10 @@ class Module:
         self.types, self.functions, self.imports = list(types), list(functions), list(imports)
         self.table, self.elements, self.memory, self.globals = table, list(elements), memory, list(globals)
 
+    def type_of(self, function):
+        imported = len(self.imports)
+        return self.types[self.imports[function] if function < imported else self.functions[function - imported][0]]
+
     def bytes(self, exports=()):
         at = lambda offset: expression(("i32.const", offset) if isinstance(offset, int) else offset)
         return HEAD + b"".join([

@@ -1,6 +1,7 @@
 """The programs of wabt (Debian's package wabt, 1.0.32), with threads on and all later features off."""
 
 import os
+import re
 import subprocess
 import tempfile
 
@@ -36,3 +37,25 @@ def assembled(text):
             return None, said
         with open(target, "rb") as file:
             return file.read(), ""
+
+
+def failing(script):
+    """Runs the lines of a script of the standard's kind, an assertion a line: those that fail, each with what is said of it."""
+    with tempfile.TemporaryDirectory() as folder:
+        source, target = os.path.join(folder, "a.wast"), os.path.join(folder, "a.json")
+        with open(source, "w") as file:
+            file.write("\n".join(script))
+        done, _, said = ran("wast2json", *FEATURES, source, "-o", target)
+        if not done:
+            return [said]
+        _, out, _ = ran("spectest-interp", *FEATURES, target, seconds=600)
+    told = re.findall(r"^\S*a\.wast:(\d+): (?!assert_\w+ passed)(.*)", out, re.M)
+    passed, asked = map(int, re.search(r"(\d+)/(\d+) tests passed", out).groups())
+    assert len(told) == asked - passed, out[-2000:]
+    return [f"{script[int(line) - 1]}: {why}" for line, why in told]
+
+
+def told(suite, asked, differing):
+    """Says how many of a suite's rows were asked and which of them differ, and gives the status."""
+    print("\n".join([*differing, f"{asked} of {len(suite.lines)} rows were asked of wabt, {len(differing)} differ"]))
+    return 1 if differing else 0
