@@ -39,12 +39,9 @@ IFS = b"\x41\x01\x04\x7f\x41\x02\x05\x41\x03\x0b\x1a"
 LOOPS = b"\x02\x40\x03\x40\x41\x00\x0d\x01\x41\x01\x0d\x00\x0b\x0b"
 
 MODULES = {
-    "many_functions": of_bodies([body(SUMS, 205)] * 19_999),
-    "one_body": of_bodies([body(SUMS, LENGTH - 64)]),
-    "locals": of_bodies([body(LOCALS, LENGTH - 64, b"\1\1\x7f")]),
-    "memory": of_bodies([body(MEMORY, LENGTH - 64)], memory=True),
-    "nests_of_256_blocks": of_bodies([body(NEST, LENGTH - 64)]),
-    "ifs": of_bodies([body(IFS, LENGTH - 64)]),
+    "many_functions": of_bodies([body(SUMS, 205)] * 19_999), "one_body": of_bodies([body(SUMS, LENGTH - 64)]),
+    "locals": of_bodies([body(LOCALS, LENGTH - 64, b"\1\1\x7f")]), "memory": of_bodies([body(MEMORY, LENGTH - 64)], memory=True),
+    "nests_of_256_blocks": of_bodies([body(NEST, LENGTH - 64)]), "ifs": of_bodies([body(IFS, LENGTH - 64)]),
     "loops": of_bodies([body(LOOPS, LENGTH - 64)]),
     "data": HEAD + section(5, [b"\0\x80\1"]) + section(11, [b"\0\x41\0\x0b" + sized(bytes(LENGTH - 64))]),
     "many_segments": HEAD + section(5, [b"\0\1"]) + section(11, [b"\0\x41\0\x0b\1x"] * 690_000),

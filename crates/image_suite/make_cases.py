@@ -149,22 +149,10 @@ one_image("order of entries", image(file(b"/z", b"1"), directory(b"/b"), file(b"
 one_image("same content", image(file(b"/x", b"1"), file(b"/y", b"1")))
 
 WRONG = {
-    "empty path": b"",
-    "relative path": b"a",
-    "root": b"/",
-    "slash at the end": b"/a/",
-    "empty component": b"//a",
-    "empty component inside": b"/d//a",
-    "dot": b"/.",
-    "dot inside": b"/./a",
-    "dot at the end": b"/d/.",
-    "two dots": b"/..",
-    "two dots inside": b"/d/../a",
-    "two dots first": b"/../a",
-    "zero byte": b"/a\0b",
-    "not UTF-8": b"/\xff",
-    "surrogate": b"/\xed\xa0\x80",
-    "cut character": b"/\xc3",
+    "empty path": b"", "relative path": b"a", "root": b"/", "slash at the end": b"/a/", "empty component": b"//a",
+    "empty component inside": b"/d//a", "dot": b"/.", "dot inside": b"/./a", "dot at the end": b"/d/.", "two dots": b"/..",
+    "two dots inside": b"/d/../a", "two dots first": b"/../a", "zero byte": b"/a\0b", "not UTF-8": b"/\xff",
+    "surrogate": b"/\xed\xa0\x80", "cut character": b"/\xc3",
 }
 for name, path in WRONG.items():
     one_image(f"directory {name}", image(directory(b"/d"), directory(path)))
@@ -207,24 +195,11 @@ one_list("fill", b"fill /p x")
 one_list("second line wrong", b"dir /a\nfill /p x\ndir /b\n")
 one_list("two lines wrong", b"dir /a\nfill /p x\nfill /q x\n")
 for name, line in {
-    "a word alone": b"dir",
-    "no path": b"dir ",
-    "two spaces": b"dir  /a",
-    "space at the end": b"dir /a ",
-    "space first": b" dir /a",
-    "three words of a directory": b"dir /a x",
-    "capital": b"Dir /a",
-    "no name": b"file /a",
-    "empty name": b"file /a ",
-    "empty file path": b"file  x",
-    "four words": b"file /a x y",
-    "two spaces before a name": b"file /a  x",
-    "name that is not UTF-8": b"file /a \xff",
-    "carriage return in a path": b"dir /a\r",
-    "tab": b"dir\t/a",
-    "no parent in a list": b"dir /a/b",
-    "parent that is the file": b"file /d/f/g x",
-    "path twice": b"dir /d",
+    "a word alone": b"dir", "no path": b"dir ", "two spaces": b"dir  /a", "space at the end": b"dir /a ",
+    "space first": b" dir /a", "three words of a directory": b"dir /a x", "capital": b"Dir /a", "no name": b"file /a",
+    "empty name": b"file /a ", "empty file path": b"file  x", "four words": b"file /a x y",
+    "two spaces before a name": b"file /a  x", "name that is not UTF-8": b"file /a \xff", "carriage return in a path": b"dir /a\r",
+    "tab": b"dir\t/a", "no parent in a list": b"dir /a/b", "parent that is the file": b"file /d/f/g x", "path twice": b"dir /d",
 }.items():
     one_list(name, b"dir /d\nfile /d/f x\n" + line + b"\ndir /z\n")
 for name, path in WRONG.items():

@@ -1,8 +1,4 @@
-"""Writes the rows of the memory suite and the answers that are expected of them.
-
-A memory is a bytearray of whole pages (WebAssembly Core 1.0, 4.2.8). Loads, stores and growth are those of 4.4.4, the
-atomic accesses those of the threads proposal; numbers stand in memory with their lowest byte first (4.3.1). A compare and
-exchange compares the loaded value with the whole expected operand.
+"""Writes the rows of the memory suite and the answers that are expected of them, by the model of suites/lib/memory.py.
 
     python3 make_cases.py            writes them
     python3 make_cases.py --check    asks wabt's interpreter (Debian's package wabt) for the answers
@@ -13,70 +9,42 @@ import sys
 sys.path.append(sys.path[0] + "/../../suites")
 from lib import wabt
 from lib.cases import Suite
-from lib.numbers import MODIFY
+from lib.memory import MOST, PAGE, Memory
+from lib.numbers import MODIFY, Trap
 
-PAGE = 65536
-MOST = 256
 SUITE = Suite("accesses.txt", "# The rows of the memory suite, written by make_cases.py, which says what they are. The answers are in the file stdout.")
 note = SUITE.note
-memory, maximum = bytearray(), 0
-
-
-def trap(at, width, aligned=False):
-    if aligned and at % width:
-        return "Misaligned"
-    return "OutOfBounds" if at + width > len(memory) else None
-
-
-def put(at, width, value):
-    memory[at:at + width] = (value % 2 ** (8 * width)).to_bytes(width, "little")
-
-
-def access(name, width, at, *values):
-    """What an access at an address answers, which may be atomic."""
-    is_atomic = name not in ("load", "store")
-    if trap(at, width, is_atomic):
-        return trap(at, width, is_atomic)
-    old = int.from_bytes(memory[at:at + width], "little")
-    if name == "store":
-        put(at, width, *values)
-        return "done"
-    if name == "compare_exchange" and old == values[0]:
-        put(at, width, values[1])
-    elif name not in ("load", "compare_exchange"):
-        put(at, width, MODIFY["xchg" if name == "exchange" else name](old, *values))
-    return f"{old:x}"
+memory = Memory(0, 0)
+NAMES = {"exchange": "xchg", "compare_exchange": "cmpxchg"}
 
 
 def answer(name, *words):
     """What a row answers: decimal numbers, but for the values of accesses, which are hexadecimal."""
-    global memory, maximum
-    if name == "copy":
-        return "done"
-    if name == "size":
-        return len(memory) // PAGE
-    first, second = int(words[0]), int(words[1]) if len(words) > 1 else 0
+    global memory
+    first, second = [*map(int, words[:2]), 0, 0][:2]
     if name == "memory":
-        memory, maximum = bytearray(first * PAGE), second
-        return "done"
-    if name == "grow":
-        old = len(memory) // PAGE
-        if old + first > min(maximum, MOST):
-            return 2**32 - 1
-        memory.extend(bytes(first * PAGE))
-        return old
-    if name == "bytes":
-        return "outside" if first + second > len(memory) else memory[first:first + second].hex()
-    if name == "write":
-        if not trap(first, 4):
-            memory[first:first + 4] = bytes([second]) * 4
-        return trap(first, 4) or "done"
-    return access(name, first, second, *(int(word, 16) for word in words[2:]))
+        memory = Memory(first, second)
+    elif name == "size":
+        return memory.size()
+    elif name == "grow":
+        return memory.grow(first)
+    elif name == "bytes":
+        return "outside" if first + second > len(memory.bytes) else memory.bytes[first:first + second].hex()
+    elif name == "write":
+        memory.access("store", 4, memory.check(first, 4), int.from_bytes(bytes([second]) * 4))
+    elif name != "copy":
+        at = memory.check(second, first, name not in ("load", "store"))
+        old = memory.access(NAMES.get(name, name), first, at, *(int(word, 16) for word in words[2:]))
+        return "done" if name == "store" else f"{old:x}"
+    return "done"
 
 
 def do(*rows):
     for row in rows:
-        SUITE.row(row, answer(*row.split()))
+        try:
+            SUITE.row(row, answer(*row.split()))
+        except Trap as trap:
+            SUITE.row(row, trap)
 
 
 note("The ends of a memory of one page, and addresses past 2^32")
@@ -134,7 +102,7 @@ do("memory 1 2", "write 0 65", f"write {PAGE - 4} 66", f"write {PAGE - 3} 67", f
    f"bytes {PAGE - 5} 5", f"bytes {PAGE - 5} 6", f"bytes {PAGE} 0", f"bytes {PAGE + 1} 0", "bytes 4294967295 4294967295", "copy",
    "bytes 0 6", f"bytes {PAGE - 4} 4", "grow 1", "grow 1")
 
-ATOMICS = {**{name: f"rmw{{}}.{name}" for name in MODIFY}, "exchange": "rmw{}.xchg", "compare_exchange": "rmw{}.cmpxchg"}
+ATOMICS = {name: f"rmw{{}}.{NAMES.get(name, name)}" for name in [*MODIFY, *NAMES]}
 TRAPS = {"Misaligned": "unaligned atomic", "OutOfBounds": "out of bounds memory access"}
 
 

@@ -127,8 +127,7 @@ def code(body, locals_=""):
     """The code of a function (5.5.13): groups of locals, and instructions without their end."""
     return " ".join(f"[ {locals_ or '+0'} {body} 0b ]".split())
 
-def module(types=(), imports=(), functions=(), tables=(), memories=(), globals_=(), exports=(),
-           start=None, elements=(), segments=()):
+def module(types=(), imports=(), functions=(), tables=(), memories=(), globals_=(), exports=(), start=None, elements=(), segments=()):
     """A module (5.5.15). A function is the index of its type, and its code."""
     lists = [[function_type(*of) for of in types], imports, [f"+{of}" for of, _ in functions], tables, memories, globals_, exports,
              [], elements, [of for _, of in functions], segments]

@@ -79,8 +79,7 @@ for name, bits in (("rmw8", 8), ("rmw16", 16), ("rmw32", 32), ("rmw", 64)):
         title(f"{name}.{modify}, of the low {bits} bits")
         for a in (1, 0x123456789ABCDEFF, 2 ** (bits - 1)):
             for b in (1, 2 ** bits - 1, (2 ** bits + 2) % 2 ** 64, 2 ** 64 - 1):
-                row(f"{name}.{modify} {digits(64, a)} {digits(64, b)}",
-                    digits(64, of(a % 2 ** bits, b % 2 ** bits) % 2 ** bits))
+                row(f"{name}.{modify} {digits(64, a)} {digits(64, b)}", digits(64, of(a % 2 ** bits, b % 2 ** bits) % 2 ** bits))
 
 # --------------------------------------------------------------------- reading
 

@@ -7,19 +7,19 @@ labels traps StackFull, and a step that traps isn't counted. A compare and excha
 that was loaded with the whole expected operand.
 """
 
-from lib.instructions import ACCESSES, ATOMICS, NUMERIC, of_integers
-from lib.numbers import MODIFY, Trap, numeric, signed
+import collections
 
-PAGE = 65536
+from lib.instructions import ACCESSES, ATOMICS, NUMERIC, of_integers
+from lib.memory import Memory
+from lib.numbers import Trap, numeric, signed
+
 # How many operands each takes, and how many bytes it accesses.
 OPERANDS = {name: len(takes) for name, _, takes, _ in of_integers(NUMERIC)}
 ACCESS = {name: 2**exponent for name, *_, exponent in of_integers(ACCESSES)}
 ATOMIC = {name: 2**exponent for name, *_, exponent in ATOMICS}
 
 
-class Label:
-    def __init__(self, arity, goes_on, behind, height):
-        self.arity, self.goes_on, self.behind, self.height = arity, goes_on, behind, height
+Label = collections.namedtuple("Label", "arity goes_on behind height")
 
 
 class Frame:
@@ -33,8 +33,7 @@ class Thread:
         self.m = module
         self.globals = [n % 2**(64 if of == "i64" else 32) for of, _, n in module.globals]
         least, most, self.shared = (module.memory + (None, False))[:3] if module.memory else (0, 0, False)
-        self.most = min(256, 65536 if most is None else most)
-        self.memory = bytearray(least * PAGE)
+        self.memory = Memory(least, 65536 if most is None else most)
         self.frames = [self.entered(function, arguments)]
         self.marked = False
 
@@ -119,13 +118,6 @@ class Thread:
         body, k = self.frames[-1].code
         self.frames[-1].code = (body, k + 1)
 
-    def checked(self, at, width, aligned):
-        if aligned and at % width:
-            raise Trap("Misaligned")
-        if at + width > len(self.memory):
-            raise Trap("OutOfBounds")
-        return at
-
     def answer(self, value):
         """Answers what the thread stands at: takes its operands, puts the value there, if any, and goes behind it."""
         f, i = self.frames[-1], self.at()
@@ -192,11 +184,11 @@ class Thread:
                 raise Trap("TypeMismatch")
             return self.call(x, 1)
         elif name == "memory.atomic.notify":
-            return ("notify", self.checked(ops[-2] + i[1], ATOMIC[name], True))
+            return ("notify", self.memory.check(ops[-2] + i[1], ATOMIC[name], True))
         elif name.startswith("memory.atomic.wait"):
             if not self.shared:
                 raise Trap("NotShared")
-            return ("wait", ATOMIC[name], self.checked(ops[-3] + i[1], ATOMIC[name], True))
+            return ("wait", ATOMIC[name], self.memory.check(ops[-3] + i[1], ATOMIC[name], True))
         else:
             self.compute(name, i[1:], f)
             self.next()
@@ -227,14 +219,9 @@ class Thread:
         elif operator == "const":
             self.push(rest[0] % 2 ** int(of[1:]))
         elif name == "memory.size":
-            self.push(len(self.memory) // PAGE)
+            self.push(self.memory.size())
         elif name == "memory.grow":
-            old, pages = len(self.memory) // PAGE, ops.pop()
-            if old + pages > self.most:
-                old = 2**32 - 1
-            else:
-                self.memory.extend(bytes(pages * PAGE))
-            ops.append(old)
+            ops.append(self.memory.grow(ops.pop()))
         elif name in OPERANDS:
             first = len(ops) - OPERANDS[name]
             ops[first:] = [numeric(name, *ops[first:])]
@@ -242,26 +229,14 @@ class Thread:
             self.access(name, operator, rest[0], ops)
 
     def access(self, name, operator, offset, ops):
-        is_atomic = name in ATOMIC
-        width = ATOMIC[name] if is_atomic else ACCESS[name]
+        width = ATOMIC.get(name) or ACCESS[name]
+        kind = "load" if "load" in name else "store" if "store" in name else operator.split(".")[2].removesuffix("_u")
         # The address stands below what is written.
-        count = 0 if "load" in name else 2 if "cmpxchg" in name else 1
-        address, *values = ops[len(ops) - 1 - count:]
-        at = self.checked(address + offset, width, is_atomic)
-        old = int.from_bytes(self.memory[at:at + width], "little")
-        del ops[len(ops) - 1 - count:]
-        if "load" in name:
-            ops.append(signed(8 * width, old) % 2 ** int(name[1:3]) if name.endswith("_s") else old)
-            return
-        if "store" in name:
-            new = values[0]
-        elif "cmpxchg" in name:
-            new = values[1] if old == values[0] else old
-        else:
-            new = MODIFY[operator.split(".")[2].removesuffix("_u")](old, values[0])
-        self.memory[at:at + width] = (new % 2 ** (8 * width)).to_bytes(width, "little")
-        if "store" not in name:
-            ops.append(old)
+        place = len(ops) - {"load": 1, "cmpxchg": 3}.get(kind, 2)
+        address, *values = ops[place:]
+        old = self.memory.access(kind, width, self.memory.check(address + offset, width, name in ATOMIC), *values)
+        is_signed = kind == "load" and name.endswith("_s")
+        ops[place:] = [] if kind == "store" else [signed(8 * width, old) % 2 ** int(name[1:3]) if is_signed else old]
 
     def run(self):
         """Steps until something stands: how many, and what."""

@@ -18,9 +18,10 @@ sys.path.append(sys.path[0] + "/../../suites")
 from lib import wabt
 from lib.cases import Suite
 from lib.instructions import ATOMICS, NUMERIC, of_integers
+from lib.memory import PAGE
 from lib.modules import Module
 from lib.numbers import numeric
-from machine import ACCESS, ATOMIC, PAGE, Thread
+from machine import ACCESS, ATOMIC, Thread
 
 SUITE = Suite("steps.txt", "# The cases of the suite of steps, written by make_cases.py, which says what they are. The answers are in the file stdout.")
 rows, lines, note = SUITE.rows, SUITE.lines, SUITE.note
@@ -37,18 +38,10 @@ def module(name, **parts):
 
 
 def stopped(ran, what):
-    kind = what[0]
-    if kind == "trap":
-        text = f"trap {what[1]}"
-    elif kind == "call":
-        text = f"call {what[1]} ({' '.join(f'{n:x}' for n in what[2])})"
-    elif kind == "wait":
-        text = f"wait {what[1]} at {what[2]:x}"
-    elif kind == "notify":
-        text = f"notify at {what[1]:x}"
-    else:
-        text = "finished"
-    return f"{ran} {text}"
+    kind, *rest = what
+    told = {"call": lambda k, values: f"{k} ({' '.join(f'{n:x}' for n in values)})", "wait": lambda width, at: f"{width} at {at:x}",
+            "notify": lambda at: f"at {at:x}", "trap": str, "finished": lambda: ""}
+    return f"{ran} {kind} {told[kind](*rest)}".rstrip()
 
 
 def run(function, *arguments, answers=(), shows=None, marked=False, expect=None):
@@ -68,7 +61,7 @@ def run(function, *arguments, answers=(), shows=None, marked=False, expect=None)
     if shows:
         at, length = shows
         words += ["bytes", f"{at:x}", f"{length:x}"]
-        found.append(thread.memory[at:at + length].hex())
+        found.append(thread.memory.bytes[at:at + length].hex())
     answer = "; ".join(found)
     assert expect is None or answer == expect, (words, answer, expect)
     rows.append(" ".join(words))
@@ -121,17 +114,17 @@ def check():
     return wabt.told(SUITE, loaded, differing)
 
 
-def get(*indices):
-    return [("local.get", k) for k in indices]
+def runs(*rows):
+    """Rows of a function and its arguments, in hexadecimal digits, each with ` = ` and its answer where that was worked out by hand."""
+    for text in rows:
+        words, _, expect = text.partition(" = ")
+        function, *arguments = words.split(" ")
+        run(int(function), *(int(n, 16) for n in arguments), expect=expect or None)
 
 
-def i32(n):
-    return ("i32.const", n)
-
-
-def i64(n):
-    return ("i64.const", n)
-
+get = lambda *indices: [("local.get", k) for k in indices]
+i32 = lambda n: ("i32.const", n)
+i64 = lambda n: ("i64.const", n)
 
 TYPES = {"i": "i32", "l": "i64"}
 CORNERS = {"i32": [0, 1, 2, 31, 32, 33, 0x7FFFFFFF, 0x80000000, 0x80000001, 0xFFFFFFFF, 0x12345678],
@@ -229,29 +222,20 @@ def access_cases():
                     run(1, at, 0x66, shows=(PAGE - 16, 16))
     note("An address and the greatest offset don't wrap")
     module("far", types=[(["i32"], [])], memory=(1, 1), functions=[(0, [], get(0) + [("i32.load8_u", 2**32 - 1), ("drop",)])])
-    run(0, 0, expect="1 trap OutOfBounds")
-    run(0, 1)
-    run(0, 2**32 - 1)
+    runs("0 0 = 1 trap OutOfBounds", "0 1", "0 ffffffff")
     note("A memory without pages")
     module("empty", types=[(["i32"], [])], memory=(0, 1), functions=[(0, [], get(0) + [("i64.load8_s", 0), ("drop",)])])
     run(0, 0)
     note("Size and growth: the old number of pages or -1, new pages are zeros")
     module("grow", types=[(["i32"], []), (["i32", "i32", "i32"], [])], imports=[1], memory=(1, 3),
            functions=[(0, [], [("memory.size",)] + get(0) + [("memory.grow",), ("memory.size",), ("call", 0)])])
-    run(1, 0, expect="4 call 0 (1 1 1)")
-    run(1, 1)
-    run(1, 2, expect="4 call 0 (1 1 3)", shows=None)
-    run(1, 3, expect="4 call 0 (1 ffffffff 1)")
-    run(1, 2**32 - 1)
+    runs("1 0 = 4 call 0 (1 1 1)", "1 1", "1 2 = 4 call 0 (1 1 3)", "1 3 = 4 call 0 (1 ffffffff 1)", "1 ffffffff")
     module("grow unbounded", types=[(["i32"], []), (["i32", "i32", "i32"], [])], imports=[1], memory=(1,),
            functions=[(0, [], [("memory.size",)] + get(0) + [("memory.grow",), ("memory.size",), ("call", 0)])])
-    run(1, 255)
-    run(1, 256)
+    runs("1 ff", "1 100")
     module("grown", types=[(["i32"], []), (["i64"], [])], imports=[1], memory=(1, 2),
            functions=[(0, [], [i32(1), ("memory.grow",), ("drop",)] + get(0) + [("i64.load", PAGE), ("call", 0)])])
-    run(1, 0)
-    run(1, PAGE - 8)
-    run(1, PAGE - 7)
+    runs("1 0", "1 fff8", "1 fff9")
 
 
 def atomic_cases():
@@ -330,27 +314,17 @@ def nested(depth, inner, of=None):
 def control_cases():
     module("plain", types=[([], [])], functions=[(0, [], []), (0, [], [("nop",)] * 3), (0, [], [("unreachable",)]), (0, [], [("return",)]),
                                                  (0, [], [("nop",), ("unreachable",), ("nop",)])])
-    run(0, expect="1 finished")
-    run(1, expect="4 finished")
-    run(2, expect="0 trap Unreachable")
-    run(3, expect="1 finished")
-    run(4, expect="1 trap Unreachable")
-    module("blocks", types=[([], [])],
-           functions=[(0, [], [("block", None, [])]), (0, [], [("loop", None, [])]),
+    runs("0 = 1 finished", "1 = 4 finished", "2 = 0 trap Unreachable", "3 = 1 finished", "4 = 1 trap Unreachable")
+    module("blocks", types=[([], [])], functions=[(0, [], [("block", None, [])]), (0, [], [("loop", None, [])]),
                       (0, [], [("block", None, [("loop", None, [("block", None, [("nop",)])])])])])
-    run(0, expect="3 finished")
-    run(1, expect="3 finished")
-    run(2, expect="8 finished")
+    runs("0 = 3 finished", "1 = 3 finished", "2 = 8 finished")
     note("The value of a block stands above what was there; operands that a branch doesn't take are gone")
     module("block values", **show(), functions=[
         (0, [], [i32(5), ("block", "i32", [i32(6)]), ("i32.sub",), ("call", 0)]),
         (0, [], [i32(5), ("block", "i32", [i32(7), i32(6), ("br", 0)]), ("i32.sub",), ("call", 0)]),
         (0, [], [i32(5), ("block", "i32", [("block", None, [i32(8), i32(9), ("br", 1)]), i32(7)]), ("i32.sub",), ("call", 0)]),
         (0, [], [i32(5), ("loop", "i32", [i32(6)]), ("i32.sub",), ("call", 0)])])
-    run(1, 0, expect="5 call 0 (ffffffff)")
-    run(2, 0, expect="6 call 0 (ffffffff)")
-    run(3, 0)
-    run(4, 0)
+    runs("1 0 = 5 call 0 (ffffffff)", "2 0 = 6 call 0 (ffffffff)", "3 0", "4 0")
     note("An if: the first arm where the operand isn't 0; without an else an empty arm")
     module("if", **show(), functions=[
         (0, [], get(0) + [("if", "i32", [i32(10)], [i32(20)]), ("call", 0)]),
@@ -373,16 +347,10 @@ def control_cases():
     note("A branch to a loop goes before it, and it is executed again: 7 steps a round")
     down = get(0) + [i32(1), ("i32.sub",), ("local.tee", 0), ("br_if", 0)]
     module("loop", **show(), functions=[
-        (0, [], [("loop", None, down)]),
-        (0, [], [("loop", None, down)] + get(0) + [("call", 0)]),
+        (0, [], [("loop", None, down)]), (0, [], [("loop", None, down)] + get(0) + [("call", 0)]),
         (0, [], [("block", None, [("loop", None, get(0) + [("i32.eqz",), ("br_if", 1)] + get(0) + [i32(1), ("i32.sub",), ("local.set", 0), ("br", 0)])])]),
         (0, [], [("loop", None, [("block", None, get(0) + [("br_if", 0), ("return",)])] + get(0) + [i32(1), ("i32.sub",), ("local.set", 0), ("br", 0)])])])
-    run(1, 1, expect="8 finished")
-    run(1, 3, expect="20 finished")
-    run(2, 3)
-    run(3, 0)
-    run(3, 5)
-    run(4, 3)
+    runs("1 1 = 8 finished", "1 3 = 20 finished", "2 3", "3 0", "3 5", "4 3")
     note("br_table: each label, and the default from the length of the list on")
     for labels, default in (([0, 1, 2, 3], 4), ([3, 0], 1), ([], 2), ([4, 4, 0], 4), ([2] * 9 + [0], 3)):
         module(f"br_table {' '.join(map(str, labels))} / {default}", **show(), functions=[
@@ -395,22 +363,17 @@ def control_cases():
         run(1, k)
     note("A branch out of all blocks leaves the result, and the end of the function is a step of its own; return is one step")
     module("results", types=[(["i32"], ["i32"]), (["i32"], []), (["i32"], ["i64"])], imports=[1], functions=[
-        (0, [], get(0)),
-        (0, [], [i32(7)] + get(0) + [("br", 0)]),
-        (0, [], [i32(7)] + get(0) + [("return",)]),
+        (0, [], get(0)), (0, [], [i32(7)] + get(0) + [("br", 0)]), (0, [], [i32(7)] + get(0) + [("return",)]),
         (0, [], [i32(7), ("block", None, [i32(8)] + get(0) + [("br", 1)]), ("drop",), i32(6)]),
         (0, [], [("block", None, [("loop", None, [i32(8), i32(8)] + get(0) + [("return",)])]), i32(5)]),
-        (0, [], get(0, 0) + [("br_if", 0)]),
-        (0, [], [i32(7)] + get(0, 0) + [("br_if", 0), ("drop",)])] + [
+        (0, [], get(0, 0) + [("br_if", 0)]), (0, [], [i32(7)] + get(0, 0) + [("br_if", 0), ("drop",)])] + [
             (1, [], [i32(100)] + get(0) + [("call", x), ("i32.add",), ("call", 0)]) for x in range(1, 5)] + [
             (1, [], [i32(100)] + get(0) + [("call", x), ("i32.add",), ("call", 0)]) for x in (5, 6, 7)])
     for x in range(8, 15):
         for c in (0, 1, 5):
             run(x, c)
     run(8, 5, answers=[None], expect="6 call 0 (69); 1 finished")
-    run(1, 5, expect="2 finished")
-    run(2, 5, expect="4 finished")
-    run(3, 5, expect="3 finished")
+    runs("1 5 = 2 finished", "2 5 = 4 finished", "3 5 = 3 finished")
 
 
 def call_cases():
@@ -420,8 +383,7 @@ def call_cases():
                       (2, [], [i64(77), i32(1), i64(2), i32(3), ("call", 2), ("i64.add",), ("call", 0)]),
                       (2, [(1, "i64")], [i64(5), ("local.set", 0), i64(77), i32(1), i64(2), i32(3), ("call", 2), ("drop",)] + get(0) + [("i64.sub",), ("call", 0)]),
                       (2, [], [i64(10), i64(20), i32(30), ("call", 1), ("drop",), i64(1), i64(2), i32(3), ("call", 1), i32(2), ("i32.add",), ("drop",)])])
-    run(3)
-    run(4)
+    runs("3", "4")
     run(5, answers=[0xFFFFFFFF, 4])
     note("An imported call without a result, and one with a result above other operands")
     module("imported", types=[([], []), ([], ["i32"]), (["i32"], []), (["i32", "i32"], ["i64"]), (["i64"], [])], imports=[0, 1, 2, 3, 4],
@@ -487,8 +449,7 @@ def full_cases():
     module("marked", types=[([], [])], functions=[(0, [], [("nop",)])])
     run(0, marked=True, expect="0 trap StackFull")
     note("At most 1,024 frames: a function that calls itself so often as its argument says")
-    module("frames", types=[(["i32"], [])],
-           functions=[(0, [], get(0) + [("if", None, get(0) + [i32(1), ("i32.sub",), ("call", 0)])])])
+    module("frames", types=[(["i32"], [])], functions=[(0, [], get(0) + [("if", None, get(0) + [i32(1), ("i32.sub",), ("call", 0)])])])
     for n in (0, 1, 1022, 1023, 1024, 2000):
         run(0, n)
     module("frames without values", types=[([], []), (["i32"], [])], globals=[("i32", True, 0)],
@@ -539,8 +500,7 @@ def full_cases():
            functions=[(1, [], tower), (1, [], entry)] + [(0, [], body) for body in last])
     for k in range(len(last)):
         run(2, 127, k)
-    run(2, 0, 7)
-    run(2, 128, 0)
+    runs("2 0 7", "2 80 0")
 
 
 note("Parametric and variable instructions")

@@ -19,9 +19,6 @@ NOSPC, NOTDIR, NOTEMPTY = 51, 54, 55
 MOST_NODES, MOST_BYTES, LAST_NUMBER = 16384, 67108864, 4294967295
 
 
-# ---------------------------------------------------------------------- paths
-
-
 class Path:
     """What a path says."""
 
@@ -40,9 +37,6 @@ class Path:
         said = [piece for piece in pieces if piece]
         self.last_dot = bool(said) and said[-1] in (b".", b"..")
         self.no_entry = self.last_dot or not self.names
-
-
-# ----------------------------------------------------------------------- tree
 
 
 class Node:
@@ -190,9 +184,6 @@ class Tree:
             names.append(next(name for name, node in self.nodes[above].content.items() if node == number))
             number = above
         return "/" + b"/".join(reversed(names)).decode()
-
-
-# -------------------------------------------------------------------- answers
 
 
 def spelled(word):

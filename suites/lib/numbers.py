@@ -57,39 +57,18 @@ UNARY = {
     "popcnt": lambda bits, a: bin(a).count("1"),
 }
 BINARY = {
-    "add": lambda bits, a, b: a + b,
-    "sub": lambda bits, a, b: a - b,
-    "mul": lambda bits, a, b: a * b,
-    "div_s": lambda bits, a, b: divided(bits, signed(bits, a), signed(bits, b)),
-    "div_u": divided,
-    "rem_s": lambda bits, a, b: remainder(signed(bits, a), signed(bits, b)),
-    "rem_u": lambda bits, a, b: remainder(a, b),
-    "and": lambda bits, a, b: a & b,
-    "or": lambda bits, a, b: a | b,
-    "xor": lambda bits, a, b: a ^ b,
-    "shl": lambda bits, a, b: a << b % bits,
-    "shr_s": lambda bits, a, b: signed(bits, a) >> b % bits,
-    "shr_u": lambda bits, a, b: a >> b % bits,
-    "rotl": lambda bits, a, b: a << b % bits | a >> bits - b % bits,
-    "rotr": lambda bits, a, b: a << -b % bits | a >> bits - -b % bits,
+    "add": lambda bits, a, b: a + b, "sub": lambda bits, a, b: a - b, "mul": lambda bits, a, b: a * b,
+    "div_s": lambda bits, a, b: divided(bits, signed(bits, a), signed(bits, b)), "div_u": divided,
+    "rem_s": lambda bits, a, b: remainder(signed(bits, a), signed(bits, b)), "rem_u": lambda bits, a, b: remainder(a, b),
+    "and": lambda bits, a, b: a & b, "or": lambda bits, a, b: a | b, "xor": lambda bits, a, b: a ^ b,
+    "shl": lambda bits, a, b: a << b % bits, "shr_s": lambda bits, a, b: signed(bits, a) >> b % bits, "shr_u": lambda bits, a, b: a >> b % bits,
+    "rotl": lambda bits, a, b: a << b % bits | a >> bits - b % bits, "rotr": lambda bits, a, b: a << -b % bits | a >> bits - -b % bits,
 }
-COMPARISONS = {
-    "eq": lambda a, b: a == b,
-    "ne": lambda a, b: a != b,
-    "lt": lambda a, b: a < b,
-    "gt": lambda a, b: a > b,
-    "le": lambda a, b: a <= b,
-    "ge": lambda a, b: a >= b,
-}
+COMPARISONS = {"eq": lambda a, b: a == b, "ne": lambda a, b: a != b, "lt": lambda a, b: a < b, "gt": lambda a, b: a > b,
+               "le": lambda a, b: a <= b, "ge": lambda a, b: a >= b}
 # What an atomic access writes, of what it reads and its operand.
-MODIFY = {
-    "add": lambda a, b: a + b,
-    "sub": lambda a, b: a - b,
-    "and": lambda a, b: a & b,
-    "or": lambda a, b: a | b,
-    "xor": lambda a, b: a ^ b,
-    "xchg": lambda a, b: b,
-}
+MODIFY = {"add": lambda a, b: a + b, "sub": lambda a, b: a - b, "and": lambda a, b: a & b, "or": lambda a, b: a | b,
+          "xor": lambda a, b: a ^ b, "xchg": lambda a, b: b}
 
 
 def numeric(name, a, b=None):
