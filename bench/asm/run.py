@@ -87,7 +87,7 @@ def main():
     said = words.parse_args()
     failed = False
     with tempfile.TemporaryDirectory() as folder, \
-            bench.copied(said.repository, "bench_asm", "anyhow wasm_ast wasm_encode wat_asm") as crate:
+            bench.copied(said.repository, "bench_asm", "anyhow wasm_ast wasm_encode wat_asm wx_types") as crate:
         paths = {}
         for name, text in TEXTS.items():
             for size in (said.size // 2, said.size):
