@@ -148,7 +148,7 @@ def assertions(row, answer):
 
 def check():
     asked = [assertions(*line.split(": ")) for line in SUITE.lines]
-    return wabt.told(SUITE, sum(map(bool, asked)), wabt.failing([line for lines in asked for line in lines]))
+    return wabt.report(SUITE, sum(map(bool, asked)), wabt.failing([line for lines in asked for line in lines]))
 
 
 sys.exit(check()) if sys.argv[1:] == ["--check"] else SUITE.write()

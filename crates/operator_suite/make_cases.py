@@ -169,7 +169,7 @@ def check():
     found = {line: assertion(line) for line in SUITE.lines}
     # Those that bring a module of their own come last.
     asked = sorted(filter(None, found.values()), key=lambda text: text.startswith("(module"))
-    return wabt.told(SUITE, len(asked), wabt.failing([f"(module (memory 1) {' '.join(functions)})", *asked]))
+    return wabt.report(SUITE, len(asked), wabt.failing([f"(module (memory 1) {' '.join(functions)})", *asked]))
 
 
 sys.exit(check()) if sys.argv[1:] == ["--check"] else SUITE.write()

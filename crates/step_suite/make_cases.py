@@ -111,7 +111,7 @@ def check():
             answer[-1] = found[-1]
         if answer and answer != found and (not found[-1].startswith("call") or answer[:len(found)] != found):
             differing.append(f"{line}; wabt: {answer}")
-    return wabt.told(SUITE, loaded, differing)
+    return wabt.report(SUITE, loaded, differing)
 
 
 def runs(*rows):

@@ -28,7 +28,7 @@ class Suite:
         self.lines.append(f"{text}: {answer}")
 
     def script(self, text, do):
-        """Rows that `do` adds: several in a line with `; ` between and behind it, and notes. Lines that begin with `##` are for the reader."""
+        """Notes, and rows that `do` adds, with `; ` between them, or `;` at the end of a line. Lines that begin with `##` are for the reader."""
         for line in text.replace(";\n", "; ").strip().split("\n"):
             if line.startswith("# "):
                 self.note(line[2:])

@@ -55,7 +55,7 @@ def failing(script):
     return [f"{script[int(line) - 1]}: {why}" for line, why in told]
 
 
-def told(suite, asked, differing):
+def report(suite, asked, differing):
     """Says how many of a suite's rows were asked and which of them differ, and gives the status."""
     print("\n".join([*differing, f"{asked} of {len(suite.lines)} rows were asked of wabt, {len(differing)} differ"]))
     return 1 if differing else 0
