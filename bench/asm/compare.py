@@ -20,7 +20,7 @@ import sys
 import tempfile
 
 TOP = os.path.dirname(os.path.dirname(sys.path[0]))
-sys.path.append(os.path.join(TOP, "suites"))
+sys.path.insert(1, os.path.join(TOP, "suites"))
 from lib import wabt
 
 

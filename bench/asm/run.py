@@ -16,7 +16,7 @@ import sys
 import tempfile
 import time
 
-sys.path.append(sys.path[0] + "/../../suites")
+sys.path.insert(1, sys.path[0] + "/../../suites")
 from lib import bench, wabt
 
 ROUNDS = 5

@@ -7,7 +7,7 @@ The program of main.rt.in is proved, built and run in a copy of the repository (
 """
 import sys
 
-sys.path.append(sys.path[0] + "/../../suites")
+sys.path.insert(1, sys.path[0] + "/../../suites")
 from lib import bench
 
 with bench.copied(*sys.argv[1:2] or [bench.TOP], "bench_descriptors", "open_desc fd_table pipes anyhow") as crate:

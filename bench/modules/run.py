@@ -11,7 +11,7 @@ import os
 import sys
 import tempfile
 
-sys.path.append(sys.path[0] + "/../../suites")
+sys.path.insert(1, sys.path[0] + "/../../suites")
 from lib import bench
 from lib.modules import HEAD, section, sized
 from lib.numbers import leb

@@ -13,7 +13,7 @@ counts are looked at, and its times say nothing.
 """
 import sys
 
-sys.path.append(sys.path[0] + "/../../suites")
+sys.path.insert(1, sys.path[0] + "/../../suites")
 from lib import bench
 
 CRATES = ["wx_types", "path_walk", "tree_nodes", "file_tree"]

@@ -17,7 +17,7 @@ import re
 import sys
 from urllib.parse import unquote_to_bytes
 
-sys.path.append(sys.path[0] + "/../../suites")
+sys.path.insert(1, sys.path[0] + "/../../suites")
 from lib.cases import written
 from lib.wabt import assembled
 

@@ -10,7 +10,7 @@ docs/COMMANDS.md and docs/FORMATS.md."""
 
 import sys
 
-sys.path.append(sys.path[0] + "/../../suites")
+sys.path.insert(1, sys.path[0] + "/../../suites")
 from lib.cases import Suite
 
 RETURN, FD_WRITE, PROC_EXIT, TRAP = 4, 17, 37, 3

@@ -9,7 +9,7 @@ number. The kinds are input, output, errors, root, reading, writing, and else th
 """
 import sys
 
-sys.path.append(sys.path[0] + "/../../suites")
+sys.path.insert(1, sys.path[0] + "/../../suites")
 from lib.cases import Refused, Suite, refuse
 
 CAPACITY, PIPE_BUF = 65536, 4096

@@ -4,7 +4,7 @@
 The rules below are those of docs/BOOT_IMAGE.md, written again: nothing here comes from the project's code."""
 import sys
 
-sys.path.append(sys.path[0] + "/../../suites")
+sys.path.insert(1, sys.path[0] + "/../../suites")
 from lib.cases import Suite
 
 MOST_NODES = 16384

@@ -6,7 +6,7 @@
 
 import sys
 
-sys.path.append(sys.path[0] + "/../../suites")
+sys.path.insert(1, sys.path[0] + "/../../suites")
 from lib import wabt
 from lib.cases import Suite
 from lib.memory import MOST, PAGE, Memory

@@ -18,7 +18,7 @@ wabt and these files differ; DIFFERS names those that are known, with the reason
 import sys
 
 sys.dont_write_bytecode = True
-sys.path.append(sys.path[0] + "/../../suites")
+sys.path.insert(1, sys.path[0] + "/../../suites")
 import format_cases
 import typing_cases
 from lib.cases import written

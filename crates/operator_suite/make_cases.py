@@ -13,7 +13,7 @@ here knows of the project's code.
 """
 import sys
 
-sys.path.append(sys.path[0] + "/../../suites")
+sys.path.insert(1, sys.path[0] + "/../../suites")
 from lib import wabt
 from lib.cases import Suite
 from lib.instructions import NUMERIC, of_integers

@@ -12,7 +12,7 @@ import collections
 import re
 import sys
 
-sys.path.append(sys.path[0] + "/../../suites")
+sys.path.insert(1, sys.path[0] + "/../../suites")
 from lib.cases import Suite
 from lib.wabt import assembled
 

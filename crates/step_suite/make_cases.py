@@ -14,7 +14,7 @@ What is expected comes from machine.py, which has the rules of steps and nothing
 import re
 import sys
 
-sys.path.append(sys.path[0] + "/../../suites")
+sys.path.insert(1, sys.path[0] + "/../../suites")
 from lib import wabt
 from lib.cases import Suite
 from lib.instructions import ATOMICS, NUMERIC, of_integers

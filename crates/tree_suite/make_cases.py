@@ -11,7 +11,7 @@ Nothing here knows of the project's code.
 import sys
 from urllib.parse import unquote_to_bytes
 
-sys.path.append(sys.path[0] + "/../../suites")
+sys.path.insert(1, sys.path[0] + "/../../suites")
 from lib.cases import Refused, Suite, refuse
 
 NOENT, EXIST, FBIG, INVAL, ISDIR, NAMETOOLONG = 44, 20, 22, 28, 31, 37
