@@ -10,15 +10,15 @@ so many bytes (2,000,000 if none are said) and at half of them: the larger may t
 compared with those of `wat2wasm`, without validation.
 """
 import argparse
+import argparse
 import os
-import shutil
-import subprocess
 import sys
 import tempfile
 import time
 
-HERE = os.path.dirname(os.path.abspath(__file__))
-WABT = ["wat2wasm", "--enable-threads", "--disable-multi-value", "--disable-bulk-memory", "--disable-reference-types", "--no-check"]
+sys.path.insert(1, sys.path[0] + "/../../suites")
+from lib import bench, wabt
+
 ROUNDS = 5
 
 
@@ -71,9 +71,9 @@ def by_wabt(path):
     best = None
     for _ in range(ROUNDS):
         start = time.perf_counter()
-        done = subprocess.run([*WABT, path, "-o", path + ".wabt"], capture_output=True, text=True, errors="replace")
+        done = wabt.ran("wat2wasm", *wabt.FEATURES, "--no-check", path, "-o", path + ".wabt")[0]
         took = time.perf_counter() - start
-        if done.returncode:
+        if not done:
             return None, None
         best = min(best or took, took)
     with open(path + ".wabt", "rb") as file:
@@ -83,27 +83,18 @@ def by_wabt(path):
 def main():
     words = argparse.ArgumentParser()
     words.add_argument("--size", type=int, default=2_000_000)
-    words.add_argument("repository", nargs="?", default=os.path.dirname(os.path.dirname(HERE)))
+    words.add_argument("repository", nargs="?", default=bench.TOP)
     said = words.parse_args()
     failed = False
-    with tempfile.TemporaryDirectory() as folder:
-        copy = os.path.join(folder, "copy")
-        shutil.copytree(said.repository, copy, ignore=shutil.ignore_patterns("out", ".git"))
-        crate = os.path.join(copy, "crates", "bench_asm")
-        os.makedirs(os.path.join(crate, "src"))
-        shutil.copy(os.path.join(HERE, "main.rt.in"), os.path.join(crate, "src", "main.rt"))
-        with open(os.path.join(copy, "crates.txt"), "a") as file:
-            file.write("\nbench_asm: anyhow wasm_ast wasm_encode wat_asm\n")
+    with tempfile.TemporaryDirectory() as folder, \
+            bench.copied(said.repository, "bench_asm", "anyhow wasm_ast wasm_encode wat_asm wx_types") as crate:
         paths = {}
         for name, text in TEXTS.items():
             for size in (said.size // 2, said.size):
                 paths[name, size] = os.path.join(folder, f"{name}_{size}")
                 with open(paths[name, size], "w") as file:
                     file.write(text(size))
-        done = subprocess.run(["rt", "run", "--", *paths.values()], cwd=crate, capture_output=True, text=True)
-        rows = dict(line.split() for line in done.stdout.split("\n") if line.startswith(folder))
-        if done.returncode or len(rows) != len(paths):
-            sys.exit(done.stdout[-3000:] + done.stderr[-3000:])
+        rows = dict(bench.rows(crate, len(paths), lambda word: word.startswith(folder), *paths.values()))
         for name in TEXTS:
             half, whole = rows[paths[name, said.size // 2]], rows[paths[name, said.size]]
             if "none" in (half, whole):

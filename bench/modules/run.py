@@ -8,28 +8,15 @@ beside it as a further crate, which is proved, built and run there, twice, so th
 With two repositories named, the one after the other. Times are the least of five passes, in milliseconds.
 """
 import os
-import shutil
-import subprocess
 import sys
 import tempfile
 
-HERE = os.path.dirname(os.path.abspath(__file__))
+sys.path.insert(1, sys.path[0] + "/../../suites")
+from lib import bench
+from lib.modules import HEAD, section, sized
+from lib.numbers import leb
+
 LENGTH = 4_194_304
-
-def leb(number):
-    out = bytearray()
-    while number >= 128:
-        out.append(number % 128 + 128)
-        number //= 128
-    return bytes(out + bytes([number]))
-
-def sized(data):
-    return leb(len(data)) + data
-
-def section(number, items):
-    return bytes([number]) + sized(leb(len(items)) + b"".join(items))
-
-HEAD = b"\0asm\1\0\0\0"
 NOTHING = b"\x60\0\0"
 
 def of_bodies(bodies, memory=False):
@@ -52,12 +39,9 @@ IFS = b"\x41\x01\x04\x7f\x41\x02\x05\x41\x03\x0b\x1a"
 LOOPS = b"\x02\x40\x03\x40\x41\x00\x0d\x01\x41\x01\x0d\x00\x0b\x0b"
 
 MODULES = {
-    "many_functions": of_bodies([body(SUMS, 205)] * 19_999),
-    "one_body": of_bodies([body(SUMS, LENGTH - 64)]),
-    "locals": of_bodies([body(LOCALS, LENGTH - 64, b"\1\1\x7f")]),
-    "memory": of_bodies([body(MEMORY, LENGTH - 64)], memory=True),
-    "nests_of_256_blocks": of_bodies([body(NEST, LENGTH - 64)]),
-    "ifs": of_bodies([body(IFS, LENGTH - 64)]),
+    "many_functions": of_bodies([body(SUMS, 205)] * 19_999), "one_body": of_bodies([body(SUMS, LENGTH - 64)]),
+    "locals": of_bodies([body(LOCALS, LENGTH - 64, b"\1\1\x7f")]), "memory": of_bodies([body(MEMORY, LENGTH - 64)], memory=True),
+    "nests_of_256_blocks": of_bodies([body(NEST, LENGTH - 64)]), "ifs": of_bodies([body(IFS, LENGTH - 64)]),
     "loops": of_bodies([body(LOOPS, LENGTH - 64)]),
     "data": HEAD + section(5, [b"\0\x80\1"]) + section(11, [b"\0\x41\0\x0b" + sized(bytes(LENGTH - 64))]),
     "many_segments": HEAD + section(5, [b"\0\1"]) + section(11, [b"\0\x41\0\x0b\1x"] * 690_000),
@@ -68,38 +52,22 @@ MODULES = {
     + section(7, [sized(b"%x" % index) + b"\3" + leb(index) for index in range(200_000)]),
 }
 
-def measured(repository, folder, files):
-    copy = os.path.join(folder, "copy")
-    shutil.rmtree(copy, ignore_errors=True)
-    shutil.copytree(repository, copy, ignore=shutil.ignore_patterns("out", ".git"))
-    crate = os.path.join(copy, "crates", "bench_modules")
-    os.makedirs(os.path.join(crate, "src"))
-    shutil.copy(os.path.join(HERE, "main.rt.in"), os.path.join(crate, "src", "main.rt"))
-    with open(os.path.join(copy, "crates.txt"), "a") as file:
-        file.write("\nbench_modules: wasm_decode wasm_encode wasm_validate\n")
-    for _ in range(2):
-        done = subprocess.run(["rt", "run", "--", *files], cwd=crate, capture_output=True, text=True)
-        rows = [line.split() for line in done.stdout.split("\n") if line.split()[:1] and line.split()[0] in files]
-        if done.returncode or len(rows) != len(files):
-            sys.exit(done.stdout[-2000:] + done.stderr[-2000:])
-        yield {os.path.basename(row[0]): row[1:] for row in rows}
+def measured(repository, files):
+    with bench.copied(repository, "bench_modules", "wasm_decode wasm_encode wasm_validate") as crate:
+        for _ in range(2):
+            rows = bench.rows(crate, len(files), files.__contains__, *files)
+            yield {os.path.basename(row[0]): row[1:] for row in rows}
 
 def milliseconds(times):
     return "/".join(f"{int(time) / 1000:.1f}" for time in times)
 
-def main():
-    repositories = [os.path.abspath(path) for path in sys.argv[1:]] or [os.path.dirname(os.path.dirname(HERE))]
-    with tempfile.TemporaryDirectory() as folder:
-        files = []
-        for name, data in MODULES.items():
-            path = os.path.join(folder, name)
-            with open(path, "wb") as file:
-                file.write(data)
-            files.append(path)
-        columns = [times for repository in repositories for times in measured(repository, folder, files)]
-    print("decode/validate/encode, milliseconds; two runs of " + ", and of ".join(repositories))
-    for name, data in MODULES.items():
-        print(f"{name:22} {len(data):8} " + "   ".join(f"{milliseconds(column[name]):>20}" for column in columns))
-
-if __name__ == "__main__":
-    main()
+repositories = [os.path.abspath(path) for path in sys.argv[1:]] or [bench.TOP]
+with tempfile.TemporaryDirectory() as folder:
+    files = [os.path.join(folder, name) for name in MODULES]
+    for path, data in zip(files, MODULES.values()):
+        with open(path, "wb") as file:
+            file.write(data)
+    columns = [times for repository in repositories for times in measured(repository, files)]
+print("decode/validate/encode, milliseconds; two runs of " + ", and of ".join(repositories))
+for name, data in MODULES.items():
+    print(f"{name:22} {len(data):8} " + "   ".join(f"{milliseconds(column[name]):>20}" for column in columns))

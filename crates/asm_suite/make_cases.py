@@ -1,108 +1,79 @@
 #!/usr/bin/env python3
-"""Writes the cases of the assembler's suite, data/texts.txt and data/*.wasm, and the lines that are expected of them, stdout.
+"""Fills the modules into the cases of the assembler's suite, data/texts.txt, and writes the lines that are expected, stdout.
 
-    python3 make_cases.py            writes them; wants `wat2wasm` (Debian's package wabt)
+    python3 make_cases.py            asks `wat2wasm` (Debian's package wabt) for each module again; nothing may change then
     python3 make_cases.py --check    prints the refused texts that `wat2wasm` takes, for it knows more forms
 
+A line of data/texts.txt is a case: its group, what is expected, and the text, with tabs between. A new one is written there, and the
+bytes of its module are left to this script, as `?`. src/notation.rt says how a text is spelled; `@NAME` is a file beside it.
+
 The bytes of each module are those that `wat2wasm` writes, with threads on, all later features off and without validation,
-which docs/TEXT_FORMAT.md doesn't ask for. Where it refuses a text of the standard the case has a second text beside it,
-of the same module, that it takes. The kind and line of each refusal stand by hand beside the text, by the rules of that page.
-Nothing here knows of the project's code.
-
-The cases stand in accepted.py and refused.py, texts in files of their own in data/. How a case is written is said in
-src/notation.rt.
+which docs/TEXT_FORMAT.md doesn't ask for. Where it refuses a text of the standard LIKE has a text of the same module that it takes.
+By hand stand, by the rules of that page, the kind and line of each refusal, the bytes of long texts, in which a piece comes many
+times, and those of a start that it doesn't write. Nothing here knows of the project's code.
 """
-import glob
 import os
-import subprocess
+import re
 import sys
-import tempfile
+from urllib.parse import unquote_to_bytes
 
-sys.dont_write_bytecode = True
-HERE = os.path.dirname(os.path.abspath(__file__))
-sys.path.append(os.path.join(HERE, "..", "module_suite"))
-import accepted
-import refused
+sys.path.insert(1, sys.path[0] + "/../../suites")
+from lib.cases import written
+from lib.wabt import assembled
 
-WABT = ["wat2wasm", "--enable-threads", "--disable-saturating-float-to-int", "--disable-sign-extension", "--disable-simd",
-        "--disable-multi-value", "--disable-bulk-memory", "--disable-reference-types", "--no-check"]
-
-
-def assembled(text, folder):
-    """The module of a text by wat2wasm, or what it says against it."""
-    source, target = os.path.join(folder, "a.wat"), os.path.join(folder, "a.wasm")
-    with open(source, "wb") as file:
-        file.write(text)
-    done = subprocess.run([*WABT, source, "-o", target], capture_output=True, text=True, errors="replace")
-    if done.returncode:
-        return None, done.stderr
-    with open(target, "rb") as file:
-        return file.read(), ""
+DATA = os.path.join(sys.path[0], "data")
+LIKE = {
+    r'(module (data (i32.const 0) "\u{1_0}"))': r'(module (data (i32.const 0) "\u{10}"))',
+    r'(module (data (i32.const 0) "\u{10_ff_ff}"))': r'(module (data (i32.const 0) "\u{10ffff}"))',
+    '(module(data(i32.const 0)"a""b"))': '(module(data(i32.const 0)"a" "b"))',
+    "(module (func (block $a (if $a (br_if $a (i32.const 0)) (i32.const 1) (then (br $a) br 1) (else (br $a) (br 1))))))":
+        "(module (func block $a i32.const 0 br_if $a i32.const 1 if $b br $b br 1 else br $b br 1 end end))",
+    "(module (func (if (i32.const 1) (i32.const 2) (then nop) (else))))": "(module (func i32.const 1 i32.const 2 if nop else end))",
+}
+BY_HAND = [f"(module (start {index}))" for index in ("4294967295", "0xffffffff", "0xFfFf_fFfF", "4_294_967_295")]
 
 
-def spelled(text):
-    """Bytes in visible characters: any other, and `%`, as `%` and two digits."""
-    return "".join(chr(byte) if 32 <= byte < 127 and byte != 37 else f"%{byte:02x}" for byte in text)
+def contents(name):
+    with open(os.path.join(DATA, name), "rb") as file:
+        return file.read()
 
 
-def parts(text):
-    """A text, or a list of texts and of texts with a count, each that often."""
-    out = ""
-    for part in [text] if isinstance(text, bytes) else text:
-        out += spelled(part) if isinstance(part, bytes) else f"%[{part[1]} {spelled(part[0])}%]"
-    return out
-
-
-def check():
-    with tempfile.TemporaryDirectory() as folder:
-        for group, kind, line, text in refused.CASES:
-            if isinstance(text, bytes) and assembled(text, folder)[0] is not None:
-                print(f"{group}, {kind} {line}: {text!r}")
+def module_of(text):
+    """The module by wat2wasm of a text as it is spelled, or of the one that stands for it."""
+    module, why = assembled(contents(text[1:]) if text[0] == "@" else unquote_to_bytes(text))
+    if text not in LIKE:
+        return module, why
+    like, why = assembled(LIKE[text].encode())
+    return (None, "no second text needed") if module == like else (like, why)
 
 
 def main():
-    lines, groups, faults = [], {}, 0
-
-    def case(group, expected, text, refusal):
+    lines, groups, faults = [], {}, []
+    for line in contents("texts.txt").decode("ascii").splitlines():
+        group, expected, text = line.split("\t")
+        is_refused = bool(re.fullmatch("(token|syntax|name) [0-9]+", expected))
+        if not is_refused and "%[" not in text and text not in BY_HAND:
+            module, why = module_of(text)
+            if module is None:
+                faults.append(f"{group}: {text}: {why}")
+            elif text[0] == "@":
+                with open(os.path.join(DATA, expected[1:]), "wb") as file:
+                    file.write(module)
+            else:
+                expected = module.hex()
         lines.append(f"{group}\t{expected}\t{text}")
-        groups.setdefault(group, [0, 0])[refusal] += 1
-
-    with tempfile.TemporaryDirectory() as folder:
-        for group, text, like in accepted.CASES:
-            if like and like.startswith(b"\0asm"):
-                module = like
-            else:
-                module, why = assembled(like or text, folder)
-            if module is None:
-                faults += 1
-                print(f"{group}: wat2wasm refuses {text!r}: {why}")
-            elif like and assembled(text, folder)[0] == module:
-                faults += 1
-                print(f"{group}: no second text needed for {text!r}")
-            else:
-                case(group, module.hex(), parts(text), 0)
-        for path in sorted(glob.glob(os.path.join(HERE, "data", "*.wat"))):
-            name = os.path.basename(path)[:-4]
-            with open(path, "rb") as file:
-                module, why = assembled(file.read(), folder)
-            if module is None:
-                faults += 1
-                print(f"{name}: wat2wasm refuses it: {why}")
-                continue
-            with open(os.path.join(HERE, "data", name + ".wasm"), "wb") as file:
-                file.write(module)
-            case("programs", f"@{name}.wasm", f"@{name}.wat", 0)
-    for group, module, text in accepted.LONG:
-        case(group, parts(module), parts(text), 0)
-    for group, kind, line, text in refused.CASES:
-        case(group, f"{kind} {line}", parts(text), 1)
-    with open(os.path.join(HERE, "data", "texts.txt"), "w", encoding="ascii", newline="\n") as file:
-        file.write("\n".join(lines) + "\n")
-    with open(os.path.join(HERE, "stdout"), "w", encoding="ascii", newline="\n") as file:
-        for group, (modules, refusals) in groups.items():
-            file.write(f"{group}: {modules} modules, {refusals} refusals\n")
-    print(f"{len(lines)} cases")
+        groups.setdefault(group, [0, 0])[is_refused] += 1
+    written("data/texts.txt", lines)
+    written("stdout", [f"{group}: {modules} modules, {refusals} refusals" for group, (modules, refusals) in groups.items()])
+    print("\n".join([*faults, f"{len(lines)} cases"]))
     return 1 if faults else 0
+
+
+def check():
+    for line in contents("texts.txt").decode("ascii").splitlines():
+        group, expected, text = line.split("\t")
+        if " " in expected and "%[" not in expected + text and assembled(unquote_to_bytes(text))[0] is not None:
+            print(line)
 
 
 if __name__ == "__main__":

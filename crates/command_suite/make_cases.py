@@ -1,5 +1,5 @@
 #!/usr/bin/env python3
-"""Writes the cases of the suite of commands, and the lines that are expected of them. Run it in this folder.
+"""Writes the cases of the suite of commands, and the lines that are expected of them.
 
 A line `NAME: SETTING; ..` is a command with the objects that it is given; `src/case.rt` says how it is spelled. Its answer is the
 reason and the status, what each sink took, how many entries the history has and what they weigh, the first three of them (process and
@@ -8,13 +8,15 @@ thread, steps, call, signal, outcome), and the files that are to be told.
 The modules are written by hand from the binary format of WebAssembly Core 1.0, images from docs/BOOT_IMAGE.md, and answers from
 docs/COMMANDS.md and docs/FORMATS.md."""
 
-rows, lines = [], []
+import sys
+
+sys.path.insert(1, sys.path[0] + "/../../suites")
+from lib.cases import Suite
+
 RETURN, FD_WRITE, PROC_EXIT, TRAP = 4, 17, 37, 3
 NO_COMMAND = "usage: wasix one|run|asm|pack|kit|gen|trace\n"
-
-
-def note(text):
-    rows.extend(["", "# " + text])
+SUITE = Suite("commands.txt", "# The cases of the suite of commands, written by make_cases.py. The answers are in the file stdout.")
+rows, lines, note = SUITE.rows, SUITE.lines, SUITE.note
 
 
 def case(name, words, reason, status, entries=(), out=b"", err="", weight=None, tell=(), files=(), **limits):
@@ -188,9 +190,4 @@ pack("a list of 1 MiB of zeros", "00*1048576", "bad list 1", 65, err=BAD_LIST)
 pack("a list of one byte more", "00*1048577", "too long", 66, err=FILE_TOO_LONG)
 case("a file of 64 MiB and a byte", "pack l o", "too long", 66, err=FILE_TOO_LONG, tell=[("o", None)],
      files=[("l", b"file /p x"), ("x", "00" * 64 + "*1048576 00")])
-
-with open("data/commands.txt", "w") as file:
-    file.write("# The cases of the suite of commands, written by make_cases.py. The answers are in the file stdout.\n")
-    file.write("\n".join(rows) + "\n")
-with open("stdout", "w") as file:
-    file.write("\n".join(lines) + "\n")
+SUITE.write()

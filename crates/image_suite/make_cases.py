@@ -1,8 +1,11 @@
 #!/usr/bin/env python3
 """Writes the cases of images and pack lists, and the lines that are expected of them.
 
-The rules below are those of docs/BOOT_IMAGE.md, written again: nothing here comes from the project's code.
-Run in this folder: it writes data/cases.txt and stdout."""
+The rules below are those of docs/BOOT_IMAGE.md, written again: nothing here comes from the project's code."""
+import sys
+
+sys.path.insert(1, sys.path[0] + "/../../suites")
+from lib.cases import Suite
 
 MOST_NODES = 16384
 MOST_BYTES = 67108864
@@ -110,19 +113,19 @@ def shown(name, tree):
     return f"{name}: image {written.hex()}" if len(written) <= 4096 else f"{name}: image of {len(written)} bytes"
 
 
-cases, expected = [], []
+SUITE = Suite("cases.txt")
 
 
 def one_image(name, data, spelled=None):
-    cases.append(f"{name}: image {spelled or data.hex()}")
+    SUITE.rows.append(f"{name}: image {spelled or data.hex()}")
     tree = read(data)
-    expected.append(f"{name}: no image" if tree is None else shown(name, tree))
+    SUITE.lines.append(f"{name}: no image" if tree is None else shown(name, tree))
 
 
 def one_list(name, text, spelled=None):
-    cases.append(f"{name}: list {spelled or text.hex()}")
+    SUITE.rows.append(f"{name}: list {spelled or text.hex()}")
     tree = judge(text)
-    expected.append(f"{name}: wrong line {tree}" if isinstance(tree, int) else shown(name, tree))
+    SUITE.lines.append(f"{name}: wrong line {tree}" if isinstance(tree, int) else shown(name, tree))
 
 
 ROOT = image()
@@ -146,22 +149,10 @@ one_image("order of entries", image(file(b"/z", b"1"), directory(b"/b"), file(b"
 one_image("same content", image(file(b"/x", b"1"), file(b"/y", b"1")))
 
 WRONG = {
-    "empty path": b"",
-    "relative path": b"a",
-    "root": b"/",
-    "slash at the end": b"/a/",
-    "empty component": b"//a",
-    "empty component inside": b"/d//a",
-    "dot": b"/.",
-    "dot inside": b"/./a",
-    "dot at the end": b"/d/.",
-    "two dots": b"/..",
-    "two dots inside": b"/d/../a",
-    "two dots first": b"/../a",
-    "zero byte": b"/a\0b",
-    "not UTF-8": b"/\xff",
-    "surrogate": b"/\xed\xa0\x80",
-    "cut character": b"/\xc3",
+    "empty path": b"", "relative path": b"a", "root": b"/", "slash at the end": b"/a/", "empty component": b"//a",
+    "empty component inside": b"/d//a", "dot": b"/.", "dot inside": b"/./a", "dot at the end": b"/d/.", "two dots": b"/..",
+    "two dots inside": b"/d/../a", "two dots first": b"/../a", "zero byte": b"/a\0b", "not UTF-8": b"/\xff",
+    "surrogate": b"/\xed\xa0\x80", "cut character": b"/\xc3",
 }
 for name, path in WRONG.items():
     one_image(f"directory {name}", image(directory(b"/d"), directory(path)))
@@ -204,24 +195,11 @@ one_list("fill", b"fill /p x")
 one_list("second line wrong", b"dir /a\nfill /p x\ndir /b\n")
 one_list("two lines wrong", b"dir /a\nfill /p x\nfill /q x\n")
 for name, line in {
-    "a word alone": b"dir",
-    "no path": b"dir ",
-    "two spaces": b"dir  /a",
-    "space at the end": b"dir /a ",
-    "space first": b" dir /a",
-    "three words of a directory": b"dir /a x",
-    "capital": b"Dir /a",
-    "no name": b"file /a",
-    "empty name": b"file /a ",
-    "empty file path": b"file  x",
-    "four words": b"file /a x y",
-    "two spaces before a name": b"file /a  x",
-    "name that is not UTF-8": b"file /a \xff",
-    "carriage return in a path": b"dir /a\r",
-    "tab": b"dir\t/a",
-    "no parent in a list": b"dir /a/b",
-    "parent that is the file": b"file /d/f/g x",
-    "path twice": b"dir /d",
+    "a word alone": b"dir", "no path": b"dir ", "two spaces": b"dir  /a", "space at the end": b"dir /a ",
+    "space first": b" dir /a", "three words of a directory": b"dir /a x", "capital": b"Dir /a", "no name": b"file /a",
+    "empty name": b"file /a ", "empty file path": b"file  x", "four words": b"file /a x y",
+    "two spaces before a name": b"file /a  x", "name that is not UTF-8": b"file /a \xff", "carriage return in a path": b"dir /a\r",
+    "tab": b"dir\t/a", "no parent in a list": b"dir /a/b", "parent that is the file": b"file /d/f/g x", "path twice": b"dir /d",
 }.items():
     one_list(name, b"dir /d\nfile /d/f x\n" + line + b"\ndir /z\n")
 for name, path in WRONG.items():
@@ -229,7 +207,4 @@ for name, path in WRONG.items():
         one_list(f"listed {name}", b"dir /d\ndir " + path + b"\n")
 for count in (MOST_NODES - 1, MOST_NODES):
     one_list(f"list of {count} directories", b"".join(b"dir /%05d\n" % number for number in range(count)), f"{b'dir /'.hex()}%{count}%0a")
-
-open("data/cases.txt", "w").write("\n".join(cases) + "\n")
-open("stdout", "w").write("\n".join(expected) + "\n")
-print(len(cases), "cases")
+SUITE.write()

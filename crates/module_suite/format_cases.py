@@ -1,5 +1,6 @@
 """Cases of the binary format (chapter 5): what is malformed, what has floats, what passes a limit, what is written."""
-from instructions import *
+from lib.instructions import *
+from lib.numbers import leb, sleb
 from spelling import *
 
 LINES.append("# The cases of the module suite, written by make_cases.py. src/notation.rt says how bytes are written.")
@@ -20,15 +21,9 @@ bad("a byte behind the first eight", "$head 00")
 
 title("A module with each section: cut at each byte, with each number long, with each section cut at each byte")
 WHOLE = [
-    (1, "+3 60 +1 7f +0 60 +0 +0 60 +2 7e 7f +1 7e"),
-    (2, '+2 [ "a" ] [ c3 a9 ] 00 +1 [ ] [ "g" ] 03 7f 00'),
-    (3, "+2 +1 +0"),
-    (4, "+1 70 01 +2 +9"),
-    (5, "+1 03 +1 +2"),
-    (6, "+2 7f 01 41 +5 0b 7e 00 42 06 0b"),
-    (7, '+4 [ "f" ] 00 +1 [ "t" ] 01 +0 [ "m" ] 02 +0 [ ] 03 +1'),
-    (8, "+1"),
-    (9, "+1 +0 23 +0 0b +2 +1 +2"),
+    (1, "+3 60 +1 7f +0 60 +0 +0 60 +2 7e 7f +1 7e"), (2, '+2 [ "a" ] [ c3 a9 ] 00 +1 [ ] [ "g" ] 03 7f 00'), (3, "+2 +1 +0"),
+    (4, "+1 70 01 +2 +9"), (5, "+1 03 +1 +2"), (6, "+2 7f 01 41 +5 0b 7e 00 42 06 0b"),
+    (7, '+4 [ "f" ] 00 +1 [ "t" ] 01 +0 [ "m" ] 02 +0 [ ] 03 +1'), (8, "+1"), (9, "+1 +0 23 +0 0b +2 +1 +2"),
     (10, "+2 [ +0 0b ] [ +2 +1 7f +2 7e 02 40 20 +0 0d +0 20 +0 0e +1 +0 +0 0b 20 +0 04 7f 10 +1 41 +1 05 41 +2 0b "
          "1a 41 +3 41 +1 11 +0 00 41 +8 28 +2 +4 1a 41 +8 fe 10 +2 +4 1a 3f 00 1a 42 06 21 +2 fe 03 00 0b ]"),
     (11, '+1 +0 41 +3 0b [ "hi" ]'),
@@ -58,10 +53,8 @@ for number, text in WHOLE:
         f"$head {before} {number:02x} {words(leb(len(bytes_of(text)[0]) + 1))} {text}")
 bad("a function section without its code", f"$head {section(1, '+1 60 00 00')} {section(3, '+1 00')}")
 bad("code without a function section", f"$head {section(1, '+1 60 00 00')} {section(10, '+1 [ 00 0b ]')}")
-bad("more code than functions", f"$head {section(1, '+1 60 00 00')} {section(3, '+1 00')} "
-    f"{section(10, '+2 [ 00 0b ] [ 00 0b ]')}")
-bad("more functions than code", f"$head {section(1, '+1 60 00 00')} {section(3, '+2 00 00')} "
-    f"{section(10, '+1 [ 00 0b ]')}")
+bad("more code than functions", f"$head {section(1, '+1 60 00 00')} {section(3, '+1 00')} {section(10, '+2 [ 00 0b ] [ 00 0b ]')}")
+bad("more functions than code", f"$head {section(1, '+1 60 00 00')} {section(3, '+2 00 00')} {section(10, '+1 [ 00 0b ]')}")
 for numbers in ("12", "13", "255"):
     bad(f"a section of the number {numbers}", f"$head {section(int(numbers), '00')}")
 EMPTY = [number for number in range(1, 12) if number != 8]
@@ -83,12 +76,10 @@ case("custom section of a name", f"$head {section(0, KEPT)}", "valid", written="
 case("custom section with bytes", f"$head {section(0, KEPT + ' 01 02 ff')}", "valid", written="$head")
 bad("custom section without a name", f"$head {section(0)}")
 bad("custom section whose name is cut", f"$head {section(0, '04 61 62 63')}")
-each("custom section that is cut", "front", f"$head {{ {section(0, ABC)} }}",
-     ["valid"] + ["malformed"] * 6, standard=False)
+each("custom section that is cut", "front", f"$head {{ {section(0, ABC)} }}", ["valid"] + ["malformed"] * 6, standard=False)
 between = " ".join(f"{section(0, C)} {section(n, t)}" for n, t in WHOLE) + " " + section(0, C)
 case("custom sections between all others", f"$head {between}", "valid", written=f"$head {whole}")
-each("custom section in long numbers", "number in 5 bytes", f"$head {section(0, KEPT + ' 01')}", "valid",
-     written="$head")
+each("custom section in long numbers", "number in 5 bytes", f"$head {section(0, KEPT + ' 01')}", "valid", written="$head")
 
 title("Names are UTF-8 (5.2.4): spelled too long, surrogates, cut short, past the last scalar, a continuation alone")
 NOT_UTF8 = [
@@ -96,14 +87,11 @@ NOT_UTF8 = [
     "\"a\" e2 82", "e2 28 a1", "e2 82 28", "f0 8f bf bf", "f0 9f 98", "f0 28 8c bc", "f4 90 80 80", "f5 80 80 80",
     "f8 88 80 80 80", "fe", "ff",
 ]
-UTF8 = ["\"a\" e2 82 ac", "7f", "c2 80", "df bf", "e0 a0 80", "ed 9f bf", "ee 80 80", "ef bf bf", "f0 90 80 80",
-        "f4 8f bf bf", "00"]
+UTF8 = ["\"a\" e2 82 ac", "7f", "c2 80", "df bf", "e0 a0 80", "ed 9f bf", "ee 80 80", "ef bf bf", "f0 90 80 80", "f4 8f bf bf", "00"]
 PLACES = [
     ("custom section", lambda name: f"$head {section(0, f'[ {name} ] 01')}", True),
-    ("module of an import", lambda name: f"$head {section(1, '+1 60 00 00')} {section(2, f'+1 [ {name} ] 00 00 00')}",
-     False),
-    ("name of an import", lambda name: f"$head {section(1, '+1 60 00 00')} {section(2, f'+1 00 [ {name} ] 00 00')}",
-     False),
+    ("module of an import", lambda name: f"$head {section(1, '+1 60 00 00')} {section(2, f'+1 [ {name} ] 00 00 00')}", False),
+    ("name of an import", lambda name: f"$head {section(1, '+1 60 00 00')} {section(2, f'+1 00 [ {name} ] 00 00')}", False),
     ("export", lambda name: f"$head {section(5, '+1 00 01')} {section(7, f'+1 [ {name} ] 02 00')}", False),
 ]
 for place, of, drops in PLACES:
@@ -135,8 +123,7 @@ case("locals that are 2^32 - 1, in two groups", body_of("", "02 fe ff ff ff 0f 7
 
 title("Numbers (5.2.2)")
 for bits, opcode, most in ((32, "41", 5), (64, "42", 10)):
-    for number in (0, 1, -1, 63, 64, -64, -65, 127, 128, 8191, 8192, -8192, -8193, 2 ** (bits - 1) - 1,
-                   -2 ** (bits - 1)):
+    for number in (0, 1, -1, 63, 64, -64, -65, 127, 128, 8191, 8192, -8192, -8193, 2 ** (bits - 1) - 1, -2 ** (bits - 1)):
         shortest = body_of(f"{opcode} {words(sleb(number))} 1a")
         case(f"i{bits}.const {number}", shortest, "valid")
         if len(sleb(number)) < most:
@@ -151,8 +138,7 @@ for last in ("10", "1f", "70", "7f", "80"):
     bad(f"a size whose fifth byte is {last}", f"$head 01 80 80 80 80 {last}")
 for number in (0, 1, 127, 128, 16383, 16384, 2 ** 32 - 1):
     case(f"i32.load at offset {number}",
-         module(types=[("", "")], functions=[(0, code(f"41 00 28 02 {words(leb(number))} 1a"))], memories=["00 01"]),
-         "valid")
+         module(types=[("", "")], functions=[(0, code(f"41 00 28 02 {words(leb(number))} 1a"))], memories=["00 01"]), "valid")
 
 title("Types, limits and kinds (5.3, 5.5)")
 for byte in ("00", "40", "6f", "70", "7b", "80"):
@@ -213,8 +199,7 @@ title("What is written shorter")
 case("an else without instructions", body_of("41 00 04 40 01 05 0b"), "valid", written=body_of("41 00 04 40 01 0b"))
 case("an if without instructions", body_of("41 00 04 40 05 0b"), "valid", written=body_of("41 00 04 40 0b"))
 case("an else with instructions", body_of("41 00 04 40 05 01 0b"), "valid")
-case("groups of equal types", body_of("", "06 02 7f 00 7e 01 7f 03 7e 04 7e 00 7f"), "valid",
-     written=body_of("", "02 03 7f 07 7e"))
+case("groups of equal types", body_of("", "06 02 7f 00 7e 01 7f 03 7e 04 7e 00 7f"), "valid", written=body_of("", "02 03 7f 07 7e"))
 case("groups of no locals", body_of("", "03 00 7f 00 7e 00 7f"), "valid", written=body_of(""))
 case("groups of equal types past 127", body_of("", "02 64 7f 1c 7f"), "valid", written=body_of("", "01 80 01 7f"))
 case("a size in five bytes", "$head 01 84 80 80 80 00 01 60 00 00", "valid", written="$head 01 04 01 60 00 00")
@@ -222,8 +207,7 @@ case("a segment without bytes", f"$head {section(5, '+1 00 01')} {section(11, '+
      written=f"$head {section(5, '+1 00 01')} {section(11, '+1 00 41 00 0b +0')}")
 EVERY = " ".join(
     ["00 01 02 40 01 0b 03 7f 41 3f 0b 04 7e 42 c0 00 05 42 40 0b 04 40 01 0b 04 40 05 02 40 0b 0b",
-     "0c 01 0d 80 01 0e 03 00 7f 80 01 02 0f 10 ff ff ff ff 0f 11 01 00 1a 1b"]
-    + [opcode for name, opcode, *_ in OTHERS]
+     "0c 01 0d 80 01 0e 03 00 7f 80 01 02 0f 10 ff ff ff ff 0f 11 01 00 1a 1b"] + [opcode for name, opcode, *_ in OTHERS]
     + [f"{opcode} {exponent + 5:02x} {words(leb(300 + place))}" for place, (name, opcode, takes, gives, exponent)
        in enumerate(ACCESSES + ATOMICS) if not has_floats(name, takes, gives)]
     + [opcode for name, opcode, takes, gives in NUMERIC if not has_floats(name, takes, gives)])
@@ -237,8 +221,7 @@ def float_case(name, opcode, immediates, takes, gives):
     text = f"{operands} {opcode} {immediates} {'1a' if gives else ''}"
     of = lambda body: module(types=[("", "")], functions=[(0, code(body))], memories=["00 01"])
     case(f"{name} {immediates}".strip(), of(" ".join(text.split())), "float", standard="valid")
-    bad(f"{name} {immediates}".strip() + ", its last byte missing",
-        of(" ".join(text.split())).replace("0b ]", "]"))
+    bad(f"{name} {immediates}".strip() + ", its last byte missing", of(" ".join(text.split())).replace("0b ]", "]"))
 
 for immediates in ("00 00 00 00", "0b 0b 0b 0b", "41 1a 0b 05", "00 00 80 3f", "ff ff ff ff"):
     float_case("f32.const", "43", immediates, "", "f")
@@ -257,21 +240,15 @@ for name, opcode, takes, gives in NUMERIC:
     if has_floats(name, takes, gives):
         float_case(name, opcode, "", takes, gives)
 FLOAT_TYPES = [
-    ("a parameter", f"$head {section(1, '+2 60 00 00 60 02 7f 7d 00')}"),
-    ("a result", f"$head {section(1, '+1 60 00 01 7c')}"),
+    ("a parameter", f"$head {section(1, '+2 60 00 00 60 02 7f 7d 00')}"), ("a result", f"$head {section(1, '+1 60 00 01 7c')}"),
     ("an imported global", f"$head {section(2, '+1 00 00 03 7d 00')}"),
-    ("a global", f"$head {section(6, '+2 7f 00 41 00 0b 7c 01 44 00*8 0b')}"),
-    ("a local", body_of("", "02 01 7f 01 7c")),
-    ("a group of no locals", body_of("", "02 01 7f 00 7c")),
-    ("a block", body_of("02 7d 00 0b 1a")),
-    ("a loop", body_of("03 7c 00 0b 1a")),
-    ("an if", body_of("41 00 04 7d 00 05 00 0b 1a")),
+    ("a global", f"$head {section(6, '+2 7f 00 41 00 0b 7c 01 44 00*8 0b')}"), ("a local", body_of("", "02 01 7f 01 7c")),
+    ("a group of no locals", body_of("", "02 01 7f 00 7c")), ("a block", body_of("02 7d 00 0b 1a")),
+    ("a loop", body_of("03 7c 00 0b 1a")), ("an if", body_of("41 00 04 7d 00 05 00 0b 1a")),
     ("a block in an else", body_of("41 00 04 40 05 02 40 02 7d 00 0b 1a 0b 0b")),
     ("an instruction in an else", body_of("41 00 04 40 05 43 00*4 1a 0b")),
-    ("an instruction behind a block", body_of("02 40 0b 43 00*4 1a")),
-    ("an instruction that isn't reached", body_of("00 43 00*4 1a")),
-    ("an instruction in a second function",
-     module(types=[("", "")], functions=[(0, code("")), (0, code("44 00*8 1a"))])),
+    ("an instruction behind a block", body_of("02 40 0b 43 00*4 1a")), ("an instruction that isn't reached", body_of("00 43 00*4 1a")),
+    ("an instruction in a second function", module(types=[("", "")], functions=[(0, code("")), (0, code("44 00*8 1a"))])),
 ]
 for name, text in FLOAT_TYPES:
     if name == "a group of no locals":
@@ -309,8 +286,7 @@ limit("functions of its own", lambda n: f"$head {types_of_number(1)} {functions_
       20_000, "functions")
 limit("functions, one imported", lambda n: f"$head {types_of_number(1)} {imported} {functions_of_number(n - 1)} "
       f"{codes_of_number(n - 1)}", 20_000, "functions")
-limit("functions, all imported", lambda n: f"$head {types_of_number(1)} 02 [ +{n} ( 00 00 00 00 )*{n} ]", 20_000,
-      "functions")
+limit("functions, all imported", lambda n: f"$head {types_of_number(1)} 02 [ +{n} ( 00 00 00 00 )*{n} ]", 20_000, "functions")
 case("other imports, 20001", "$head 02 [ +20001 ( 00 00 03 7f 00 )*20001 ]", "valid")
 limit("locals", lambda n: body_of("", f"+1 +{n} 7f"), 8_192, "locals")
 limit("locals in two groups", lambda n: body_of("", f"+2 +1 7f +{n - 1} 7e"), 8_192, "locals")
@@ -318,11 +294,8 @@ with_parameters = lambda n: f"$head {section(1, '+2 60 00 00 60 02 7f 7e 00')} {
     f"{section(10, f'+2 [ 00 0b ] [ +1 +{n - 2} 7f 0b ]')}"
 limit("locals, two of them parameters", with_parameters, 8_192, "locals")
 NESTS = [
-    ("blocks", "02 40", "0b", None),
-    ("loops", "03 40", "0b", None),
-    ("ifs", "41 00 04 40", "0b", None),
-    ("ifs with an empty else", "41 00 04 40", "05 0b", "41 00 04 40"),
-    ("ifs in else arms", "41 00 04 40 05", "0b", "41 00 04 40 05"),
+    ("blocks", "02 40", "0b", None), ("loops", "03 40", "0b", None), ("ifs", "41 00 04 40", "0b", None),
+    ("ifs with an empty else", "41 00 04 40", "05 0b", "41 00 04 40"), ("ifs in else arms", "41 00 04 40 05", "0b", "41 00 04 40 05"),
 ]
 for name, begin, end, kept in NESTS:
     of = lambda n: body_of(f"( {begin} )*{n} ( {end} )*{n}")
@@ -334,8 +307,7 @@ for name, begin, end, kept in NESTS:
         written = None
     limit(f"nested {name}", of, 256, "nesting", written=written)
 limit("nested blocks in a constant expression",
-      lambda n: f"$head {section(6, f'+1 7f 00 ( 02 40 )*{n} 0b*{n} 0b')}", 256, "nesting", verdict="invalid",
-      standard="invalid")
+      lambda n: f"$head {section(6, f'+1 7f 00 ( 02 40 )*{n} 0b*{n} 0b')}", 256, "nesting", verdict="invalid", standard="invalid")
 case("nested blocks in a first and a second function",
      module(types=[("", "")], functions=[(0, code("( 02 40 )*200 0b*200"))] * 2), "valid")
 case("neighbouring blocks, 1000", body_of("( 02 40 0b )*1000"), "valid")
@@ -354,13 +326,9 @@ for first in range(len(PASSED)):
     past = lambda place: first <= place
     text = " ".join([
         "$head", types_of_number(10_001 if past(1) else 1), functions_of_number(20_001 if past(2) else 1),
-        section(4, "+1 70 00 " + ("+65537" if past(5) else "+1")),
-        section(5, "+1 00 " + ("+257" if past(6) else "+1")),
-        f"0a [ +{20_001 if past(2) else 1} [ "
-        + ("01 +8193 7f" if past(3) else "00")
-        + (" ( 02 40 )*257 0b*257" if past(4) else "")
-        + (" 43 00*4 1a" if past(0) else "")
-        + " 0b ]" + (" ( 02 00 0b )*20000" if past(2) else "") + " ]",
+        section(4, "+1 70 00 " + ("+65537" if past(5) else "+1")), section(5, "+1 00 " + ("+257" if past(6) else "+1")),
+        f"0a [ +{20_001 if past(2) else 1} [ " + ("01 +8193 7f" if past(3) else "00") + (" ( 02 40 )*257 0b*257" if past(4) else "")
+        + (" 43 00*4 1a" if past(0) else "") + " 0b ]" + (" ( 02 00 0b )*20000" if past(2) else "") + " ]",
     ])
     case(f"past all limits from {PASSED[first].split()[-1]} on", text, PASSED[first])
     bad(f"past all limits from {PASSED[first].split()[-1]} on, with a byte more", f"{text} 0b")

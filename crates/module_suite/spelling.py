@@ -1,22 +1,6 @@
 """How a case writes its bytes, the cases so far, and parts of modules. src/notation.rt says what the words mean."""
 
-def leb(number, size=1):
-    """An unsigned number (5.2.2), in at least so many bytes."""
-    out = bytearray()
-    while number >= 128 or len(out) + 1 < size:
-        out.append(number % 128 + 128)
-        number //= 128
-    return bytes(out + bytes([number]))
-
-def sleb(number, size=1):
-    """A signed number (5.2.2), in at least so many bytes."""
-    out = bytearray()
-    while True:
-        low = number & 127
-        number >>= 7
-        if number in (0, -1) and (low >= 64) == (number == -1) and len(out) + 1 >= size:
-            return bytes(out + bytes([low]))
-        out.append(low + 128)
+from lib.numbers import leb
 
 def words(data):
     return " ".join(f"{byte:02x}" for byte in data)
@@ -143,29 +127,13 @@ def code(body, locals_=""):
     """The code of a function (5.5.13): groups of locals, and instructions without their end."""
     return " ".join(f"[ {locals_ or '+0'} {body} 0b ]".split())
 
-def module(types=(), imports=(), functions=(), tables=(), memories=(), globals_=(), exports=(),
-           start=None, elements=(), segments=()):
+def module(types=(), imports=(), functions=(), tables=(), memories=(), globals_=(), exports=(), start=None, elements=(), segments=()):
     """A module (5.5.15). A function is the index of its type, and its code."""
-    parts = ["$head"]
-    for number, items in (
-        (1, [function_type(*of) for of in types]),
-        (2, list(imports)),
-        (3, [f"+{of}" for of, _ in functions]),
-        (4, list(tables)),
-        (5, list(memories)),
-        (6, list(globals_)),
-        (7, list(exports)),
-        (8, start),
-        (9, list(elements)),
-        (10, [of for _, of in functions]),
-        (11, list(segments)),
-    ):
-        if number == 8:
-            if start is not None:
-                parts.append(section(8, f"+{start}"))
-        elif items:
-            parts.append(section(number, counted(items)))
-    return " ".join(parts)
+    lists = [[function_type(*of) for of in types], imports, [f"+{of}" for of, _ in functions], tables, memories, globals_, exports,
+             [], elements, [of for _, of in functions], segments]
+    parts = [section(number, counted(items)) if items else "" for number, items in enumerate(lists, 1)]
+    parts[7] = "" if start is None else section(8, f"+{start}")
+    return " ".join(["$head", *filter(None, parts)])
 
 def body_of(instructions, locals_=""):
     """A module of one function that takes and gives nothing."""

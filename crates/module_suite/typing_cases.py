@@ -1,5 +1,6 @@
 """Cases of validation (chapter 3)."""
-from instructions import *
+from lib.instructions import *
+from lib.numbers import leb
 from spelling import *
 
 title("Each instruction: what it gives, with a wrong operand, with one too few, with its immediates (3.3)")
@@ -23,8 +24,7 @@ def instruction(name, opcode, takes, gives):
              "valid" if of == GIVING[gives] else "invalid")
     of = GIVING[gives]
     for wrong in range(len(takes)):
-        case(f"{name}, its operand {wrong} of another type", in_function(of, f"{operands(takes, wrong)} {opcode}"),
-             "invalid")
+        case(f"{name}, its operand {wrong} of another type", in_function(of, f"{operands(takes, wrong)} {opcode}"), "invalid")
     if takes:
         case(f"{name}, an operand missing", in_function(of, f"{operands(takes[1:])} {opcode}"), "invalid")
 
@@ -37,20 +37,15 @@ for table, rule in ((ACCESSES, lambda align, most: align <= most), (ATOMICS, lam
             continue
         instruction(name, f"{opcode} {exponent:02x} 00", takes, gives)
         for align in range(5):
-            case(f"{name}, the alignment {align}",
-                 in_function(GIVING[gives], f"{operands(takes)} {opcode} {align:02x} 07"),
+            case(f"{name}, the alignment {align}", in_function(GIVING[gives], f"{operands(takes)} {opcode} {align:02x} 07"),
                  "valid" if rule(align, exponent) else "invalid")
 for align in (31, 32, 33, 63, 64, 2 ** 32 - 1):
-    case(f"i32.load, the alignment {align}", in_function(1, f"41 00 28 {words(leb(align))} 00"), "invalid",
-         standard="skip")
-    case(f"i32.atomic.load, the alignment {align}", in_function(1, f"41 00 fe 10 {words(leb(align))} 00"), "invalid",
-         standard="skip")
+    case(f"i32.load, the alignment {align}", in_function(1, f"41 00 28 {words(leb(align))} 00"), "invalid", standard="skip")
+    case(f"i32.atomic.load, the alignment {align}", in_function(1, f"41 00 fe 10 {words(leb(align))} 00"), "invalid", standard="skip")
 for name, opcode, takes, gives in (("local.get", "20", "", 1), ("local.set", "21", "41 00", 0),
-                                   ("local.tee", "22", "41 00", 1), ("global.get", "23", "", 1),
-                                   ("global.set", "24", "41 00", 0)):
+                                   ("local.tee", "22", "41 00", 1), ("global.get", "23", "", 1), ("global.set", "24", "41 00", 0)):
     for index in (2, 128, 2 ** 32 - 1):
-        case(f"{name} {index}, which isn't there", in_function(gives, f"{takes} {opcode} {words(leb(index))}"),
-             "invalid")
+        case(f"{name} {index}, which isn't there", in_function(gives, f"{takes} {opcode} {words(leb(index))}"), "invalid")
 
 WORDS = {
     "i32": "41 00", "i64": "42 00", "add": "6a", "eqz64": "50", "drop": "1a", "select": "1b", "br0": "0c 00",
@@ -117,8 +112,7 @@ for text, is_typed in [
     ("block-i32 i32 i32 br_table0-0 end drop", True), ("block-i32 i32 i32 br_table0-1 end drop", False),
     ("block-i32 i32 i32 br_table1-0 end drop", False), ("block i32 br_table0-1 end", True),
     ("loop-i32 i32 br_table0-1 end drop", True), ("block loop i32 br_if1 end end", True),
-    ("block-i32 loop i32 i32 br_if1 drop end i32 end drop", True),
-    ("block-i32 loop i32 br_if1 end i32 end drop", False),
+    ("block-i32 loop i32 i32 br_if1 drop end i32 end drop", True), ("block-i32 loop i32 br_if1 end i32 end drop", False),
     ("i32 if end", True), ("if end", False), ("i64 if end", False), ("i32 if-i32 i32 else i32 end drop", True),
     ("i32 if-i32 i32 end drop", False), ("i32 if-i32 else i32 end drop", False),
     ("i32 if-i32 i32 else i64 end drop", False), ("i32 if-i32 i64 else i32 end drop", False),
@@ -152,16 +146,13 @@ for inner, is_typed in [("i32", True), ("i64", False), ("i32 br256", True), ("br
          module(types=[("", "i")], functions=[(0, code(f"( 02 7f 03 7f )*128 {assembled(inner)} 0b*256"))]),
          "valid" if is_typed else "invalid")
 for name, text, is_typed in [
-    ("flat", "( 41 00 1a )*50000", True),
-    ("flat, with an operand left", "( 41 00 1a )*50000 41 00", False),
-    ("flat, with an operand missing", "( 41 00 1a )*50000 1a", False),
-    ("deep", "( 41 00 )*50000 6a*49999 1a", True),
+    ("flat", "( 41 00 1a )*50000", True), ("flat, with an operand left", "( 41 00 1a )*50000 41 00", False),
+    ("flat, with an operand missing", "( 41 00 1a )*50000 1a", False), ("deep", "( 41 00 )*50000 6a*49999 1a", True),
     ("deep, with an operand missing", "( 41 00 )*50000 6a*50000", False),
     ("deep, with a wrong operand at the bottom", "42 00 ( 41 00 )*50000 6a*50000 1a", False),
     ("deep, with branches", "( 41 00 )*30000 ( 41 00 0d 00 )*20000 1a*30000", True),
     ("deep, with branches and an operand left", "( 41 00 )*30000 ( 41 00 0d 00 )*20000 1a*29999", False),
-    ("neighbouring blocks", "( 02 40 0b )*50000", True),
-    ("a table of 100,000 branches", "41 00 0e +100000 00*100000 00", True),
+    ("neighbouring blocks", "( 02 40 0b )*50000", True), ("a table of 100,000 branches", "41 00 0e +100000 00*100000 00", True),
     ("a table of 100,000 branches, the last one wrong", "41 00 0e +100000 00*99999 01 00", False),
 ]:
     case(f"long body, {name}", body_of(text), "valid" if is_typed else "invalid")
@@ -181,8 +172,7 @@ SEGMENT = lambda memory, init: f"+{memory} {assembled(init)} 0b +0"
 
 title("Types, imports, functions, tables, memories and the start (3.2, 3.4)")
 for name, is_typed, parts in [
-    ("a result", True, dict(types=[("ii", "i")])),
-    ("two results", False, dict(types=[("", "ii")])),
+    ("a result", True, dict(types=[("ii", "i")])), ("two results", False, dict(types=[("", "ii")])),
     ("function import", True, dict(types=[ANY], imports=[FUNC(0)])),
     ("function import of no type", False, dict(types=[ANY], imports=[FUNC(1)])),
     ("table import", True, dict(imports=[f"{IN} 01 70 {ONE}"])),
@@ -190,26 +180,19 @@ for name, is_typed, parts in [
     ("memory import", True, dict(imports=[f"{IN} 02 {ONE}"])),
     ("memory import past its greatest", False, dict(imports=[f"{IN} 02 {UNORDERED}"])),
     ("memory import with too great a bound", False, dict(imports=[f"{IN} 02 01 00 +65537"])),
-    ("memory import shared", True, dict(imports=[f"{IN} 02 03 01 01"])),
-    ("global import", True, dict(imports=[SETTABLE])),
-    ("function", True, dict(types=[ANY], functions=[RUN()])),
-    ("function of no type", False, dict(types=[ANY], functions=[RUN(of=1)])),
+    ("memory import shared", True, dict(imports=[f"{IN} 02 03 01 01"])), ("global import", True, dict(imports=[SETTABLE])),
+    ("function", True, dict(types=[ANY], functions=[RUN()])), ("function of no type", False, dict(types=[ANY], functions=[RUN(of=1)])),
     ("function of no type at all", False, dict(functions=[RUN()])),
     ("function of a wrong result", False, dict(types=[ANY], functions=[RUN("i32")])),
     ("second function of a wrong result", False, dict(types=[ANY], functions=[RUN(), RUN("i32")])),
-    ("table", True, dict(tables=[f"70 {ONE}"])),
-    ("table of the greatest bound", True, dict(tables=["70 01 00 ff ff ff ff 0f"])),
-    ("table past its greatest", False, dict(tables=[f"70 {UNORDERED}"])),
-    ("two tables", False, dict(tables=[f"70 {ONE}"] * 2)),
+    ("table", True, dict(tables=[f"70 {ONE}"])), ("table of the greatest bound", True, dict(tables=["70 01 00 ff ff ff ff 0f"])),
+    ("table past its greatest", False, dict(tables=[f"70 {UNORDERED}"])), ("two tables", False, dict(tables=[f"70 {ONE}"] * 2)),
     ("two tables, one imported", False, dict(imports=[f"{IN} 01 70 {ONE}"], tables=[f"70 {ONE}"])),
-    ("two tables, both imported", False, dict(imports=[f"{IN} 01 70 {ONE}"] * 2)),
-    ("memory", True, dict(memories=[ONE])),
+    ("two tables, both imported", False, dict(imports=[f"{IN} 01 70 {ONE}"] * 2)), ("memory", True, dict(memories=[ONE])),
     ("memory past its greatest", False, dict(memories=[UNORDERED])),
     ("memory of all pages allowed", True, dict(memories=["01 00 +65536"])),
-    ("memory of too great a bound", False, dict(memories=["01 00 +65537"])),
-    ("memory shared", True, dict(memories=["03 01 01"])),
-    ("memory shared past its greatest", False, dict(memories=["03 02 01"])),
-    ("two memories", False, dict(memories=[ONE, ONE])),
+    ("memory of too great a bound", False, dict(memories=["01 00 +65537"])), ("memory shared", True, dict(memories=["03 01 01"])),
+    ("memory shared past its greatest", False, dict(memories=["03 02 01"])), ("two memories", False, dict(memories=[ONE, ONE])),
     ("two memories, one imported", False, dict(imports=[f"{IN} 02 {ONE}"], memories=[ONE])),
     ("start", True, dict(types=[ANY], functions=[RUN()], start=0)),
     ("start imported", True, dict(types=[ANY], imports=[FUNC(0)], start=0)),
@@ -238,10 +221,8 @@ for name, is_typed, parts in [
     ("two names", True, dict(imports=[SETTABLE], exports=[EXPORT('"a"', 3, 0), EXPORT('"ab"', 3, 0)])),
     ("one name twice", False, dict(imports=[SETTABLE], exports=[EXPORT('"a"', 3, 0)] * 2)),
     ("no name twice", False, dict(imports=[SETTABLE], exports=[EXPORT("", 3, 0)] * 2)),
-    ("one name for two kinds", False,
-     dict(imports=[SETTABLE], memories=[ONE], exports=[EXPORT('"a"', 3, 0), EXPORT('"a"', 2, 0)])),
-    ("one name around another", False,
-     dict(imports=[SETTABLE], exports=[EXPORT('"a"', 3, 0), EXPORT('"b"', 3, 0), EXPORT('"a"', 3, 0)])),
+    ("one name for two kinds", False, dict(imports=[SETTABLE], memories=[ONE], exports=[EXPORT('"a"', 3, 0), EXPORT('"a"', 2, 0)])),
+    ("one name around another", False, dict(imports=[SETTABLE], exports=[EXPORT('"a"', 3, 0), EXPORT('"b"', 3, 0), EXPORT('"a"', 3, 0)])),
     ("names that differ in a byte alone", True,
      dict(imports=[SETTABLE], exports=[EXPORT("c3 a9", 3, 0), EXPORT("c3 a8", 3, 0), EXPORT('"e" cc 81', 3, 0)])),
 ]:
@@ -253,8 +234,7 @@ for name, is_typed, parts in [
     ("a constant", True, dict(globals_=[GLOBAL(I32, "00", "i32")])),
     ("a constant that can be set", True, dict(globals_=[GLOBAL(I64, "01", "i64")])),
     ("a constant of another type", False, dict(globals_=[GLOBAL(I32, "00", "i64")])),
-    ("no value", False, dict(globals_=[GLOBAL(I32, "00", "")])),
-    ("two values", False, dict(globals_=[GLOBAL(I32, "00", "i32 i32")])),
+    ("no value", False, dict(globals_=[GLOBAL(I32, "00", "")])), ("two values", False, dict(globals_=[GLOBAL(I32, "00", "i32 i32")])),
     ("a nop", False, dict(globals_=[GLOBAL(I32, "00", "i32 nop")])),
     ("a sum", False, dict(globals_=[GLOBAL(I32, "00", "i32 i32 add")])),
     ("a block", False, dict(globals_=[GLOBAL(I32, "00", "block-i32 i32 end")])),
@@ -278,21 +258,17 @@ for name, is_typed, parts in [
     ("a segment of a second memory", False, dict(memories=[ONE], segments=[SEGMENT(1, "i32")])),
     ("a segment at another type", False, dict(memories=[ONE], segments=[SEGMENT(0, "i64")])),
     ("a segment at a global", True, dict(memories=[ONE], imports=[FIXED], segments=[SEGMENT(0, "global0")])),
-    ("a segment at a global that can be set", False,
-     dict(memories=[ONE], imports=[SETTABLE], segments=[SEGMENT(0, "global0")])),
-    ("a second segment at another type", False,
-     dict(memories=[ONE], segments=[SEGMENT(0, "i32"), SEGMENT(0, "i64")])),
+    ("a segment at a global that can be set", False, dict(memories=[ONE], imports=[SETTABLE], segments=[SEGMENT(0, "global0")])),
+    ("a second segment at another type", False, dict(memories=[ONE], segments=[SEGMENT(0, "i32"), SEGMENT(0, "i64")])),
 ]:
     case(f"{name} as a constant expression", module(**parts), "valid" if is_typed else "invalid")
 case("a segment at a global of its own as a constant expression",
-     module(memories=[ONE], globals_=[GLOBAL(I32, "00", "i32")], segments=[SEGMENT(0, "global0")]), "valid",
-     standard="skip")
+     module(memories=[ONE], globals_=[GLOBAL(I32, "00", "i32")], segments=[SEGMENT(0, "global0")]), "valid", standard="skip")
 
 title("What instructions need of the module (3.3.3 to 3.3.5)")
 TABLE, MEMORY = dict(tables=[f"70 {ONE}"]), dict(memories=[ONE])
 for name, is_typed, parts in [
-    ("size", True, dict(MEMORY, functions=[RUN("size drop")])),
-    ("size of no memory", False, dict(functions=[RUN("size drop")])),
+    ("size", True, dict(MEMORY, functions=[RUN("size drop")])), ("size of no memory", False, dict(functions=[RUN("size drop")])),
     ("growth", True, dict(MEMORY, functions=[RUN("i32 grow drop")])),
     ("growth of no memory", False, dict(functions=[RUN("i32 grow drop")])),
     ("load", True, dict(MEMORY, functions=[RUN("i32 load drop")])),
@@ -304,8 +280,7 @@ for name, is_typed, parts in [
     ("atomic load from no memory", False, dict(functions=[RUN("i32 atomic-load drop")])),
     ("fence without memory", True, dict(functions=[RUN("fence")])),
     ("indirect call", True, dict(TABLE, functions=[RUN("i32 call_indirect0")])),
-    ("indirect call through an imported table", True,
-     dict(imports=[f"{IN} 01 70 {ONE}"], functions=[RUN("i32 call_indirect0")])),
+    ("indirect call through an imported table", True, dict(imports=[f"{IN} 01 70 {ONE}"], functions=[RUN("i32 call_indirect0")])),
     ("indirect call without table", False, dict(functions=[RUN("i32 call_indirect0")])),
     ("indirect call of no type", False, dict(TABLE, functions=[RUN("i32 call_indirect1")])),
     ("indirect call without operand", False, dict(TABLE, functions=[RUN("call_indirect0")])),
@@ -337,21 +312,17 @@ for name, is_typed, results, text in [
     ("a local that is set", True, "", "i64 21 03"), ("a local that is set to another type", False, "", "i32 21 03"),
 ]:
     case(f"{name} in a function of two parameters and two groups of locals",
-         module(types=[("il", results)], functions=[(0, code(assembled(text), "+2 +2 7e +1 7f"))]),
-         "valid" if is_typed else "invalid")
+         module(types=[("il", results)], functions=[(0, code(assembled(text), "+2 +2 7e +1 7f"))]), "valid" if is_typed else "invalid")
 
 title("Small programs")
 SEVEN = '$head 01 [ +2 60 01 7f 00 60 00 00 ] 02 [ +1 [ "wasi_snapshot_preview1" ] [ "proc_exit" ] 00 00 ]'
 START = '07 [ +1 [ "_start" ] 00 01 ]'
 case("a program that ends with 7", f"{SEVEN} 03 [ +1 01 ] {START} 0a [ +1 [ 00 41 07 10 00 0b ] ]", "valid")
-bad("a program that ends with 7, its last byte missing",
-    f"{SEVEN} 03 [ +1 01 ] {START} 0a 08 01 06 00 41 07 10 00")
-case("a program that ends with 7 in five bytes",
-     f"{SEVEN} 03 [ +1 01 ] {START} 0a [ +1 [ 00 41 87 80 80 80 00 10 00 0b ] ]", "valid",
+bad("a program that ends with 7, its last byte missing", f"{SEVEN} 03 [ +1 01 ] {START} 0a 08 01 06 00 41 07 10 00")
+case("a program that ends with 7 in five bytes", f"{SEVEN} 03 [ +1 01 ] {START} 0a [ +1 [ 00 41 87 80 80 80 00 10 00 0b ] ]", "valid",
      written=f"{SEVEN} 03 [ +1 01 ] {START} 0a [ +1 [ 00 41 07 10 00 0b ] ]")
 case("a program with a further function of floats",
-     f"{SEVEN} 03 [ +2 01 01 ] {START} 0a [ +2 [ 00 41 07 10 00 0b ] [ 00 44 00*8 1a 0b ] ]", "float",
-     standard="valid")
+     f"{SEVEN} 03 [ +2 01 01 ] {START} 0a [ +2 [ 00 41 07 10 00 0b ] [ 00 44 00*8 1a 0b ] ]", "float", standard="valid")
 bad("a program with a further function of floats, its last byte missing",
     f"{SEVEN} 03 [ +2 01 01 ] {START} 0a 15 02 [ 00 41 07 10 00 0b ] 0c 00 44 00*8 1a")
 case("a program that writes hi",

@@ -1,7 +1,8 @@
 #!/usr/bin/env python3
 """Writes the rows of the operator suite, data/operators.txt, and the lines that are expected of them, stdout.
 
-    python3 make_cases.py
+    python3 make_cases.py            writes them
+    python3 make_cases.py --check    asks wabt's interpreter (Debian's package wabt) for the answers of operators and of signed numbers
 
 The values are computed with Python's integers, which have no bound, by the definitions of WebAssembly Core 1.0,
 sections 4.3.2 and 4.3.4, those of numbers by section 5.2.2, and the atomic ones by the threads proposal. Nothing
@@ -10,84 +11,34 @@ here knows of the project's code.
 `NAME A` and `NAME A B` are an operator on numbers in hexadecimal, of 32 bits in 8 digits and of 64 bits in 16;
 `NAME of 00 01 ..` is an item read from the front of bytes.
 """
-import os
+import sys
 
-LINES = [
-    "# The rows of the operator suite, written by make_cases.py, which says what they are. The answers are in the",
-    "# file stdout.",
-]
-EXPECTED = []
+sys.path.insert(1, sys.path[0] + "/../../suites")
+from lib import wabt
+from lib.cases import Suite
+from lib.instructions import NUMERIC, of_integers
+from lib.modules import Module, sized
+from lib.numbers import BINARY, COMPARISONS, MODIFY, Trap, UNARY, numeric
 
-def title(text):
-    LINES.append("")
-    LINES.append(f"# {text}")
-
-def row(text, answer):
-    LINES.append(text)
-    EXPECTED.append(f"{text}: {answer}")
+SUITE = Suite("operators.txt", "# The rows of the operator suite, written by make_cases.py, which says what they are. The answers are in the",
+              "# file stdout.")
+title, row = SUITE.note, SUITE.row
 
 # ------------------------------------------------------------------- operators
 
-def signed(bits, n):
-    return n - 2 ** bits if n >= 2 ** (bits - 1) else n
-
-def truncated(a, b):
-    """The quotient, rounded towards 0."""
-    quotient = abs(a) // abs(b)
-    return quotient if (a < 0) == (b < 0) else -quotient
-
-def div_s(bits, a, b):
-    if b == 0:
-        return "divide by zero"
-    quotient = truncated(signed(bits, a), signed(bits, b))
-    return "overflow" if quotient == 2 ** (bits - 1) else quotient
-
-def rem_s(bits, a, b):
-    if b == 0:
-        return "divide by zero"
-    a, b = signed(bits, a), signed(bits, b)
-    return a - b * truncated(a, b)
-
-def rotl(bits, a, k):
-    k %= bits
-    return a << k | a >> (bits - k)
-
-BINARY = {
-    "add": lambda bits, a, b: a + b,
-    "sub": lambda bits, a, b: a - b,
-    "mul": lambda bits, a, b: a * b,
-    "div_s": div_s,
-    "div_u": lambda bits, a, b: a // b if b else "divide by zero",
-    "rem_s": rem_s,
-    "rem_u": lambda bits, a, b: a % b if b else "divide by zero",
-    "and": lambda bits, a, b: a & b,
-    "or": lambda bits, a, b: a | b,
-    "xor": lambda bits, a, b: a ^ b,
-    "shl": lambda bits, a, b: a << b % bits,
-    "shr_s": lambda bits, a, b: signed(bits, a) >> b % bits,
-    "shr_u": lambda bits, a, b: a >> b % bits,
-    "rotl": rotl,
-    "rotr": lambda bits, a, b: rotl(bits, a, -b),
-}
-COMPARISON = {
-    "eq": lambda a, b: a == b,
-    "ne": lambda a, b: a != b,
-    "lt": lambda a, b: a < b,
-    "gt": lambda a, b: a > b,
-    "le": lambda a, b: a <= b,
-    "ge": lambda a, b: a >= b,
-}
-UNARY = {
-    "clz": lambda bits, a: bits - a.bit_length(),
-    "ctz": lambda bits, a: (a & -a).bit_length() - 1 if a else bits,
-    "popcnt": lambda bits, a: bin(a).count("1"),
-}
 
 def digits(bits, n):
     return f"{n % 2 ** bits:0{bits // 4}x}"
 
-def shown(bits, answer):
-    return answer if isinstance(answer, str) else digits(bits, int(answer))
+
+def operator(name, bits, gives, *operands):
+    """A row of an operator on numbers of so many bits, which gives one of so many."""
+    try:
+        answer = digits(gives, numeric(name, *operands))
+    except Trap as trap:
+        answer = {"DivideByZero": "divide by zero", "Overflow": "overflow"}[str(trap)]
+    row(" ".join([name, *(digits(bits, n) for n in operands)]), answer)
+
 
 def corners(bits):
     """0, the least and the greatest numbers with and without a sign, and numbers near them."""
@@ -99,43 +50,36 @@ def distances(bits):
     return [0, 1, bits - 1, bits, bits + 1, 2 * bits - 1, 2 ** bits - 1]
 
 for bits in (32, 64):
-    for name, of in BINARY.items():
+    for name in BINARY:
         title(f"i{bits}.{name}")
         for a in corners(bits):
             for b in distances(bits) if name in ("shl", "shr_s", "shr_u", "rotl", "rotr") else corners(bits):
-                row(f"i{bits}.{name} {digits(bits, a)} {digits(bits, b)}", shown(bits, of(bits, a, b)))
-    for name, of in COMPARISON.items():
-        for sign in [""] if name in ("eq", "ne") else ["_s", "_u"]:
-            title(f"i{bits}.{name}{sign}")
-            view = (lambda n: signed(bits, n)) if sign == "_s" else (lambda n: n)
+                operator(f"i{bits}.{name}", bits, bits, a, b)
+    for compare in COMPARISONS:
+        for name in [f"i{bits}.{compare}"] if compare in ("eq", "ne") else [f"i{bits}.{compare}_s", f"i{bits}.{compare}_u"]:
+            title(name)
             for a in corners(bits)[::2]:
                 for b in corners(bits)[1::2] + [a]:
-                    row(f"i{bits}.{name}{sign} {digits(bits, a)} {digits(bits, b)}",
-                        shown(32, of(view(a), view(b))))
+                    operator(name, bits, 32, a, b)
     title(f"i{bits}.eqz, clz, ctz, popcnt")
     for a in corners(bits) + [2 ** place for place in range(3, bits, 9)]:
-        row(f"i{bits}.eqz {digits(bits, a)}", shown(32, a == 0))
-        for name, of in UNARY.items():
-            row(f"i{bits}.{name} {digits(bits, a)}", shown(bits, of(bits, a)))
+        operator(f"i{bits}.eqz", bits, 32, a)
+        for name in UNARY:
+            operator(f"i{bits}.{name}", bits, bits, a)
 
 title("Conversions")
 for a in corners(32):
-    row(f"i64.extend_i32_s {digits(32, a)}", shown(64, signed(32, a)))
-    row(f"i64.extend_i32_u {digits(32, a)}", shown(64, a))
+    operator("i64.extend_i32_s", 32, 64, a)
+    operator("i64.extend_i32_u", 32, 64, a)
 for a in corners(64) + [2 ** 32 - 1, 2 ** 32, 2 ** 32 + 1, 2 ** 31 + 2 ** 40]:
-    row(f"i32.wrap_i64 {digits(64, a)}", shown(32, a))
+    operator("i32.wrap_i64", 64, 32, a)
 
-ATOMIC = {
-    "add": lambda a, b: a + b, "sub": lambda a, b: a - b, "and": lambda a, b: a & b, "or": lambda a, b: a | b,
-    "xor": lambda a, b: a ^ b, "xchg": lambda a, b: b,
-}
 for name, bits in (("rmw8", 8), ("rmw16", 16), ("rmw32", 32), ("rmw", 64)):
-    for operator, of in ATOMIC.items():
-        title(f"{name}.{operator}, of the low {bits} bits")
+    for modify, of in MODIFY.items():
+        title(f"{name}.{modify}, of the low {bits} bits")
         for a in (1, 0x123456789ABCDEFF, 2 ** (bits - 1)):
             for b in (1, 2 ** bits - 1, (2 ** bits + 2) % 2 ** 64, 2 ** 64 - 1):
-                row(f"{name}.{operator} {digits(64, a)} {digits(64, b)}",
-                    digits(64, of(a % 2 ** bits, b % 2 ** bits) % 2 ** bits))
+                row(f"{name}.{modify} {digits(64, a)} {digits(64, b)}", digits(64, of(a % 2 ** bits, b % 2 ** bits) % 2 ** bits))
 
 # --------------------------------------------------------------------- reading
 
@@ -182,9 +126,50 @@ for name, size in (("byte", 1), ("two bytes", 2), ("four bytes", 4), ("eight byt
             enough = len(data) >= size
             reading(name, data, int.from_bytes(data[:size], "little") if enough else "end", size if enough else 0)
 
-if __name__ == "__main__":
-    here = os.path.dirname(os.path.abspath(__file__))
-    with open(os.path.join(here, "data", "operators.txt"), "w", encoding="ascii", newline="\n") as file:
-        file.write("\n".join(LINES) + "\n")
-    with open(os.path.join(here, "stdout"), "w", encoding="ascii", newline="\n") as file:
-        file.write("\n".join(EXPECTED) + "\n")
+# ----------------------------------------------------------------------- wabt
+
+TYPES = {"i": "i32", "l": "i64"}
+SIGNATURES = {name: (takes, gives) for name, _, takes, gives in of_integers(NUMERIC)}
+SIGNATURES |= {f"{width}.{modify}": ("ll", "l") for width in ("rmw8", "rmw16", "rmw32", "rmw") for modify in MODIFY}
+TRAPS = {"divide by zero": "integer divide by zero", "overflow": "integer overflow"}
+
+
+def assertion(line):
+    """What the standard's kind of script says of a line, or None where a script can't say it."""
+    row, answer = line.split(": ")
+    name, *words = row.split(" ")
+    if name in SIGNATURES:
+        takes, gives = SIGNATURES[name]
+        call = f'(invoke "{name}" ' + " ".join(f"({TYPES[of]}.const 0x{word})" for of, word in zip(takes, words)) + ")"
+        return f'(assert_trap {call} "{TRAPS[answer]}")' if answer in TRAPS else f"(assert_return {call} ({TYPES[gives]}.const 0x{answer}))"
+    if name not in ("i32", "i64"):
+        return None
+    answer, left = answer.removesuffix(" left").split(", ")
+    data = bytes.fromhex("".join(words[1:len(words) - int(left)]))
+    # Up to the size of the code section.
+    module = Module([([], [name])], [(0, [], [])]).bytes(exports=[("f", 0)])[:-5]
+    code = b"\x00" + bytes([0x41 if name == "i32" else 0x42]) + data + (b"\x0b" if answer.lstrip("-").isdigit() else b"")
+    spelled = "".join(f"\\{byte:02x}" for byte in module + sized(b"\1" + sized(code)))
+    if answer in ("end", "too long"):
+        return f'(assert_malformed (module binary "{spelled}") "{answer}")'
+    return f'(module binary "{spelled}") (assert_return (invoke "f") ({name}.const {answer}))'
+
+
+def check():
+    functions = []
+    for name, (takes, gives) in SIGNATURES.items():
+        words = " ".join(f"(local.get {place})" for place in range(len(takes)))
+        body = f"({name} {words})"
+        if name.startswith("rmw"):
+            of = name.replace("rmw.", "i64.atomic.rmw.") if name.startswith("rmw.") else f"i64.atomic.{name}_u"
+            load = "i64.load" + (f"{name[3:].partition('.')[0]}_u" if name[3] != "." else "")
+            body = f"(i64.store (i32.const 0) (local.get 0)) (drop ({of} (i32.const 0) (local.get 1))) ({load} (i32.const 0))"
+        types = " ".join(TYPES[of] for of in takes)
+        functions.append(f'(func (export "{name}") (param {types}) (result {TYPES[gives]}) {body})')
+    found = {line: assertion(line) for line in SUITE.lines}
+    # Those that bring a module of their own come last.
+    asked = sorted(filter(None, found.values()), key=lambda text: text.startswith("(module"))
+    return wabt.report(SUITE, len(asked), wabt.failing([f"(module (memory 1) {' '.join(functions)})", *asked]))
+
+
+sys.exit(check()) if sys.argv[1:] == ["--check"] else SUITE.write()

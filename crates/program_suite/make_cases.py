@@ -1,5 +1,4 @@
-"""Writes the cases of the suite of programs and the lines that are expected of them. Run it in this folder; it takes `wat2wasm` of
-Debian's package wabt.
+"""Writes the cases of the suite of programs and the lines that are expected of them; it takes `wat2wasm` of Debian's package wabt.
 
 A line `NAME: SLICE FUEL BYTES` is a module, with how many steps one slice has and how many its process may run. Its answer is
 the fault of loading it, or why its run ended, what it printed to output and errors (`-` for nothing), what the history weighs, and
@@ -11,21 +10,20 @@ each, and a call of an imported function and what traps are none. `words` alone 
 
 import collections
 import re
-import subprocess
-import tempfile
+import sys
+
+sys.path.insert(1, sys.path[0] + "/../../suites")
+from lib.cases import Suite
+from lib.wabt import assembled
 
 SLICE, FUEL = 10_000, 4_294_967_296
-EXAMPLES = "../../examples/"
+EXAMPLES = sys.path[0] + "/../../examples/"
 WRITE = '(import "wasi_snapshot_preview1" "fd_write" (func $fd_write (param i32 i32 i32 i32) (result i32)))'
 EXIT = '(import "wasi_snapshot_preview1" "proc_exit" (func $proc_exit (param i32)))'
 START = '(func (export "_start"))'
 
-rows, lines = [], []
-
-
-def note(text):
-    rows.append("")
-    rows.append("# " + text)
+SUITE = Suite("programs.txt", "# The cases of the suite of programs, written by make_cases.py, which says what they are. The answers are in the file stdout.")
+rows, lines, note = SUITE.rows, SUITE.lines, SUITE.note
 
 
 def case(name, module, answer, slice=SLICE, fuel=FUEL):
@@ -40,11 +38,9 @@ def example(name):
 
 def spelled(text):
     """The module of a text, valid or not."""
-    with tempfile.NamedTemporaryFile("w", suffix=".wat") as file, tempfile.NamedTemporaryFile() as out:
-        file.write(f"(module {text})")
-        file.flush()
-        subprocess.run(["wat2wasm", "--no-check", "--enable-threads", file.name, "-o", out.name], check=True)
-        return out.read()
+    module, why = assembled(f"(module {text})".encode())
+    assert module is not None, why
+    return module
 
 
 def ran(why, *entries, out=b"", err=b"", weight=None):
@@ -235,8 +231,4 @@ case("a wait", spelled(f"(memory 1 1 shared) {START} (func {WAITS})"), "NotYet")
 case("a notify", spelled(f"(memory 1 1 shared) {START} (func (drop (memory.atomic.notify (i32.const 0) (i32.const 0))))"), "NotYet")
 case("an atomic load", spelled(f"(memory 1 1 shared) {START} (func (drop (i32.atomic.load (i32.const 0))))"), returns(1))
 
-with open("data/programs.txt", "w") as file:
-    file.write("# The cases of the suite of programs, written by make_cases.py, which says what they are. The answers are in the file stdout.\n")
-    file.write("\n".join(rows) + "\n")
-with open("stdout", "w") as file:
-    file.write("\n".join(lines) + "\n")
+SUITE.write()

@@ -1,4 +1,4 @@
-"""Steps of a guest thread (WebAssembly Core 1.0, chapter 4, and the threads proposal), over modules of binary.py.
+"""Steps of a guest thread (WebAssembly Core 1.0, chapter 4, and the threads proposal), over modules of lib.modules.
 
 A step executes one instruction; the end of a block or arm is one that removes its label, the end of a function one that
 returns. A branch to a loop goes before the loop, which is executed again; one out of all blocks leaves the function's results,
@@ -7,66 +7,19 @@ labels traps StackFull, and a step that traps isn't counted. A compare and excha
 that was loaded with the whole expected operand.
 """
 
-import binary
+import collections
 
-PAGE = 65536
+from lib.instructions import ACCESSES, ATOMICS, NUMERIC, of_integers
+from lib.memory import Memory
+from lib.numbers import Trap, numeric, signed
 
-
-class Trap(Exception):
-    pass
-
-
-def to_signed(n, bits):
-    return binary.wrapped(n, bits)
-
-
-def divide(a, b):
-    """The quotient rounded towards zero."""
-    q = abs(a) // abs(b)
-    return q if (a < 0) == (b < 0) else -q
+# How many operands each takes, and how many bytes it accesses.
+OPERANDS = {name: len(takes) for name, _, takes, _ in of_integers(NUMERIC)}
+ACCESS = {name: 2**exponent for name, *_, exponent in of_integers(ACCESSES)}
+ATOMIC = {name: 2**exponent for name, *_, exponent in ATOMICS}
 
 
-def numeric(name, a, b=None):
-    """What a numeric instruction gives, as the number of its bits."""
-    if name == "i32.wrap_i64":
-        return a % 2**32
-    if name == "i64.extend_i32_s":
-        return to_signed(a, 32) % 2**64
-    if name == "i64.extend_i32_u":
-        return a
-    of, op = name.split(".")
-    bits = 32 if of == "i32" else 64
-    top = 2**bits
-    sa, sb = to_signed(a, bits), None if b is None else to_signed(b, bits)
-    if op in ("div_s", "div_u", "rem_s", "rem_u") and b == 0:
-        raise Trap("DivideByZero")
-    if op == "div_s" and sa == -top // 2 and sb == -1:
-        raise Trap("Overflow")
-    k = None if b is None else b % bits
-    text = f"{a:0{bits}b}"
-    value = {
-        "eqz": lambda: a == 0, "eq": lambda: a == b, "ne": lambda: a != b, "lt_s": lambda: sa < sb, "lt_u": lambda: a < b,
-        "gt_s": lambda: sa > sb, "gt_u": lambda: a > b, "le_s": lambda: sa <= sb, "le_u": lambda: a <= b, "ge_s": lambda: sa >= sb,
-        "ge_u": lambda: a >= b,
-        "clz": lambda: bits - len(text.lstrip("0")), "ctz": lambda: bits - len(text.rstrip("0")) if a else bits,
-        "popcnt": lambda: text.count("1"),
-        "add": lambda: a + b, "sub": lambda: a - b, "mul": lambda: a * b,
-        "div_s": lambda: divide(sa, sb), "div_u": lambda: a // b,
-        "rem_s": lambda: sa - sb * divide(sa, sb), "rem_u": lambda: a % b,
-        "and": lambda: a & b, "or": lambda: a | b, "xor": lambda: a ^ b,
-        "shl": lambda: a << k, "shr_u": lambda: a >> k, "shr_s": lambda: sa >> k,
-        "rotl": lambda: a << k | a >> bits - k, "rotr": lambda: a >> k | a << bits - k,
-    }[op]()
-    return int(value) % top
-
-
-NUMERIC = {n: (1 if n.split(".")[1] in ("eqz", "clz", "ctz", "popcnt", "wrap_i64", "extend_i32_s", "extend_i32_u") else 2)
-           for n in binary.PLAIN if "." in n}
-
-
-class Label:
-    def __init__(self, arity, goes_on, behind, height):
-        self.arity, self.goes_on, self.behind, self.height = arity, goes_on, behind, height
+Label = collections.namedtuple("Label", "arity goes_on behind height")
 
 
 class Frame:
@@ -80,8 +33,7 @@ class Thread:
         self.m = module
         self.globals = [n % 2**(64 if of == "i64" else 32) for of, _, n in module.globals]
         least, most, self.shared = (module.memory + (None, False))[:3] if module.memory else (0, 0, False)
-        self.most = min(256, 65536 if most is None else most)
-        self.memory = bytearray(least * PAGE)
+        self.memory = Memory(least, 65536 if most is None else most)
         self.frames = [self.entered(function, arguments)]
         self.marked = False
 
@@ -92,13 +44,6 @@ class Thread:
 
     def values(self):
         return sum(len(f.locals) + len(f.operands) for f in self.frames)
-
-    def labels(self):
-        return sum(len(f.labels) for f in self.frames)
-
-    def type_of(self, x):
-        n = len(self.m.imports)
-        return self.m.types[self.m.imports[x] if x < n else self.m.functions[x - n][0]]
 
     def at(self):
         """The next instruction of the innermost frame, or None at the end of a list."""
@@ -113,9 +58,12 @@ class Thread:
         self.room(1)
         self.frames[-1].operands.append(value)
 
-    def open(self, arity, goes_on, behind, inner):
-        if self.labels() >= 16384:
+    def check_labels(self):
+        if sum(len(f.labels) for f in self.frames) >= 16384:
             raise Trap("StackFull")
+
+    def open(self, arity, goes_on, behind, inner):
+        self.check_labels()
         f = self.frames[-1]
         f.labels.append(Label(arity, goes_on, behind, len(f.operands)))
         f.code = (inner, 0)
@@ -141,7 +89,7 @@ class Thread:
     def call(self, x, over):
         """A call, with so many operands above its arguments."""
         f = self.frames[-1]
-        params, results = self.type_of(x)
+        params, results = self.m.type_of(x)
         if x < len(self.m.imports):
             if self.values() - over - len(params) + len(results) > 65536:
                 raise Trap("StackFull")
@@ -170,23 +118,11 @@ class Thread:
         body, k = self.frames[-1].code
         self.frames[-1].code = (body, k + 1)
 
-    def check(self, at, width, aligned=False):
-        if aligned and at % width:
-            raise Trap("Misaligned")
-        if at + width > len(self.memory):
-            raise Trap("OutOfBounds")
-
-    def read(self, at, width):
-        return int.from_bytes(self.memory[at:at + width], "little")
-
-    def write(self, at, width, value):
-        self.memory[at:at + width] = (value % 2**(8 * width)).to_bytes(width, "little")
-
     def answer(self, value):
         """Answers what the thread stands at: takes its operands, puts the value there, if any, and goes behind it."""
         f, i = self.frames[-1], self.at()
         if i[0] == "call":
-            taken = len(self.type_of(i[1])[0])
+            taken = len(self.m.type_of(i[1])[0])
         elif i[0] == "call_indirect":
             taken = len(self.m.types[i[1]][0]) + 1
         else:
@@ -218,19 +154,13 @@ class Thread:
             return None
         name, ops = i[0], f.operands
         behind = (f.code[0], f.code[1] + 1)
-        of = name.split(".")[0]
-        bits = 32 if of == "i32" else 64
-        if name == "unreachable":
-            raise Trap("Unreachable")
-        elif name in ("nop", "atomic.fence"):
-            self.next()
-        elif name == "block":
+        # What moves to another place, or stands.
+        if name == "block":
             self.open(1 if i[1] else 0, behind, behind, i[2])
         elif name == "loop":
             self.open(0, f.code, behind, i[2])
         elif name == "if":
-            if self.labels() >= 16384:
-                raise Trap("StackFull")
+            self.check_labels()
             inner = i[2] if ops.pop() else (i[3] if len(i) > 3 else [])
             self.open(1 if i[1] else 0, behind, behind, inner)
         elif name == "br":
@@ -250,106 +180,63 @@ class Thread:
             x = self.element(ops[-1])
             if x is None:
                 raise Trap("UninitializedElement")
-            if self.m.types[i[1]] != self.type_of(x):
+            if self.m.types[i[1]] != self.m.type_of(x):
                 raise Trap("TypeMismatch")
             return self.call(x, 1)
+        elif name == "memory.atomic.notify":
+            return ("notify", self.memory.check(ops[-2] + i[1], ATOMIC[name], True))
+        elif name.startswith("memory.atomic.wait"):
+            if not self.shared:
+                raise Trap("NotShared")
+            return ("wait", ATOMIC[name], self.memory.check(ops[-3] + i[1], ATOMIC[name], True))
+        else:
+            self.compute(name, i[1:], f)
+            self.next()
+        return None
+
+    def compute(self, name, rest, f):
+        """An instruction behind which the next one stands."""
+        ops, (of, _, operator) = f.operands, name.partition(".")
+        if name == "unreachable":
+            raise Trap("Unreachable")
+        elif name in ("nop", "atomic.fence"):
+            pass
         elif name == "drop":
             ops.pop()
-            self.next()
         elif name == "select":
             c, second, first = ops.pop(), ops.pop(), ops.pop()
             ops.append(first if c else second)
-            self.next()
         elif name == "local.get":
-            self.push(f.locals[i[1]])
-            self.next()
+            self.push(f.locals[rest[0]])
         elif name == "local.set":
-            f.locals[i[1]] = ops.pop()
-            self.next()
+            f.locals[rest[0]] = ops.pop()
         elif name == "local.tee":
-            f.locals[i[1]] = ops[-1]
-            self.next()
+            f.locals[rest[0]] = ops[-1]
         elif name == "global.get":
-            self.push(self.globals[i[1]])
-            self.next()
+            self.push(self.globals[rest[0]])
         elif name == "global.set":
-            self.globals[i[1]] = ops.pop()
-            self.next()
-        elif name in ("i32.const", "i64.const"):
-            self.push(i[1] % 2**bits)
-            self.next()
+            self.globals[rest[0]] = ops.pop()
+        elif operator == "const":
+            self.push(rest[0] % 2 ** int(of[1:]))
         elif name == "memory.size":
-            self.push(len(self.memory) // PAGE)
-            self.next()
+            self.push(self.memory.size())
         elif name == "memory.grow":
-            old, pages = len(self.memory) // PAGE, ops.pop()
-            if old + pages > self.most:
-                old = 2**32 - 1
-            else:
-                self.memory.extend(bytes(pages * PAGE))
-            ops.append(old)
-            self.next()
-        elif name in NUMERIC:
-            count = NUMERIC[name]
-            value = numeric(name, *ops[len(ops) - count:])
-            del ops[len(ops) - count:]
-            ops.append(value)
-            self.next()
-        elif name in binary.ACCESS:
-            width = binary.ACCESS[name][1]
-            if "load" in name:
-                at = ops[-1] + i[1]
-                self.check(at, width)
-                value = self.read(at, width)
-                ops[-1] = to_signed(value, 8 * width) % 2**bits if name.endswith("_s") else value
-            else:
-                at = ops[-2] + i[1]
-                self.check(at, width)
-                self.write(at, width, ops[-1])
-                del ops[-2:]
-            self.next()
-        elif name in binary.ATOMIC:
-            return self.atomic(name, i[1], binary.ATOMIC[name][1])
+            ops.append(self.memory.grow(ops.pop()))
+        elif name in OPERANDS:
+            first = len(ops) - OPERANDS[name]
+            ops[first:] = [numeric(name, *ops[first:])]
         else:
-            raise KeyError(name)
-        return None
+            self.access(name, operator, rest[0], ops)
 
-    def atomic(self, name, offset, width):
-        ops = self.frames[-1].operands
-        if name == "memory.atomic.notify":
-            self.check(ops[-2] + offset, width, True)
-            return ("notify", ops[-2] + offset)
-        if "wait" in name:
-            if not self.shared:
-                raise Trap("NotShared")
-            self.check(ops[-3] + offset, width, True)
-            return ("wait", width, ops[-3] + offset)
-        if ".load" in name:
-            at = ops[-1] + offset
-            self.check(at, width, True)
-            ops[-1] = self.read(at, width)
-        elif ".store" in name:
-            at = ops[-2] + offset
-            self.check(at, width, True)
-            self.write(at, width, ops[-1])
-            del ops[-2:]
-        elif ".cmpxchg" in name:
-            at = ops[-3] + offset
-            self.check(at, width, True)
-            old = self.read(at, width)
-            if old == ops[-2]:
-                self.write(at, width, ops[-1])
-            ops[-3:] = [old]
-        else:
-            at = ops[-2] + offset
-            self.check(at, width, True)
-            old, value = self.read(at, width), ops[-1]
-            new = {"add": old + value, "sub": old - value, "and": old & value, "or": old | value, "xor": old ^ value,
-                   "xchg": value}[name.split(".")[3].removesuffix("_u")]
-            self.write(at, width, new)
-            ops[-2:] = [old]
-        self.next()
-        return None
+    def access(self, name, operator, offset, ops):
+        width = ATOMIC.get(name) or ACCESS[name]
+        kind = "load" if "load" in name else "store" if "store" in name else operator.split(".")[2].removesuffix("_u")
+        # The address stands below what is written.
+        place = len(ops) - {"load": 1, "cmpxchg": 3}.get(kind, 2)
+        address, *values = ops[place:]
+        old = self.memory.access(kind, width, self.memory.check(address + offset, width, name in ATOMIC), *values)
+        is_signed = kind == "load" and name.endswith("_s")
+        ops[place:] = [] if kind == "store" else [signed(8 * width, old) % 2 ** int(name[1:3]) if is_signed else old]
 
     def run(self):
         """Steps until something stands: how many, and what."""
