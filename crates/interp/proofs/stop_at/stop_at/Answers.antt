@@ -2,8 +2,9 @@ use Rattle.std.proofs.Common.{sym, ap, ◌∙◌}
 use Rattle.wasm_ast.specs.declared.instr.Instr.TheVariants as instr
 use Rattle.wasm_ast.specs.Position.{next, sequence_at}
 use Rattle.guest_state.specs.Snapshot.{innermost_body}
+use Rattle.interp.specs.Operands.{IsPlain}
 use Rattle.interp.specs.Stops.{stop_of}
-use Rattle.interp.proofs.StepLemmas.{IsPlain, block_step, br_if_quiet, br_quiet, br_table_quiet, end_quiet, if_change, indirect_ready, is_plain, loop_step, plain_front, plain_ready, plain_step, return_quiet, row_moves}
+use Rattle.interp.proofs.StepLemmas.{block_step, br_if_quiet, br_quiet, br_table_quiet, end_quiet, if_change, indirect_ready, is_plain, loop_step, plain_front, plain_ready, plain_step, return_quiet, row_moves}
 use Rattle.interp.proofs.stop_at.stop_at.Goals as goal
 
 pub call_stop-requires-clause-moves : goal.call_stop-requires-clause-moves
@@ -46,7 +47,7 @@ plain_stop-requires c =
     let i = c.in-Some.instr.now in
     let plain : IsPlain i = is_plain i c.in_default-instr.not-Block c.in_default-instr.not-Loop c.in_default-instr.not-If c.in_default-instr.not-Br c.in_default-instr.not-BrIf c.in_default-instr.not-BrTable c.in_default-instr.not-Return c.in_default-instr.not-Call c.in_default-instr.not-CallIndirect in
     let at = c.in-Some.ensures.begins (innermost_body m s) c.requires.list ∙ plain_front (sequence_at (innermost_body m s)) i _ plain in
-    record { frames = c.requires.frames; ready = plain_ready m memory place s c.requires.frames c.requires.free typed c.requires.bytes c.requires.fits (next place) i at plain }
+    record { frames = c.requires.frames; ready = plain_ready m memory place s c.requires.frames c.requires.free typed c.requires.bytes c.requires.fits (next place) i at; plain = plain }
 
 pub returns-in-Call : goal.returns-in-Call
 returns-in-Call c =
