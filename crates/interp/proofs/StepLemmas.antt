@@ -206,31 +206,38 @@ if_enters : (memory : LinearMemory) (u : GuestThread) (of : Option ValType) (fir
 if_enters memory u of first second rest [] none = absurd (omega arith)
 if_enters memory u of first second rest (c ∷ os) some = (λ g. opened (arity_of of) rest rest (if nat_eq c 0 then second else first) (record g { operands = os }), refl)
 
-module _ (m : Module) (memory : LinearMemory) (place : Position) (s : Snapshot) (some : 0 < length s.frames) (free : s.full ≡ false) (typed_module : is_typed m ≡ true) (is : IsMemory memory)
-    (fits : Fits m (thread_at m place s)) where
+-- what is known of a thread before its next step
+pub record Standing (m : Module) (memory : LinearMemory) (place : Position) (s : Snapshot) : Type 0 where
+  pub frames : 0 < length s.frames
+  pub free : s.full ≡ false
+  pub typed : is_typed m ≡ true
+  pub bytes : IsMemory memory
+  pub fits : Fits m (thread_at m place s)
+
+module _ {m : Module} {memory : LinearMemory} {place : Position} {s : Snapshot} (known : Standing m memory place s) where
   abbrev t : GuestThread
   t = thread_at m place s
 
   abbrev f : Frame
-  f = (has_first m place s some).0
+  f = (has_first m place s known.frames).0
 
   abbrev fs : List Frame
-  fs = (has_first m place s some).1
+  fs = (has_first m place s known.frames).1
 
   e : t.frames ≡ f ∷ fs
-  e = (has_first m place s some).2
+  e = (has_first m place s known.frames).2
 
   pub moves : step m memory t ≡ Stuck → ⊥
-  moves stuck = subst (IsKept m) stuck (step_kept m memory t typed_module is fits)
+  moves stuck = subst (IsKept m) stuck (step_kept m memory t known.typed known.bytes known.fits)
 
   fits_frame : FitsFrame m None f
-  fits_frame = (subst (FitFrames m None) e fits.frames).0
+  fits_frame = (subst (FitFrames m None) e known.fits.frames).0
 
   code_is : f.code ≡ left_at m place s
-  code_is = ap head_code (sym e) ∙ head_code_is m place s some
+  code_is = ap head_code (sym e) ∙ head_code_is m place s known.frames
 
   pub step_is : step m memory t ≡ of_first (λ g. step_code m memory t g (left_at m place s)) t.frames
-  step_is = ap (λ full. if full then Trapped StackFull else step_frames m memory t t.frames) free ∙ by_frames t s.frames where
+  step_is = ap (λ full. if full then Trapped StackFull else step_frames m memory t t.frames) known.free ∙ by_frames t s.frames where
     by_frames : (u : GuestThread) (gs : List OpenFrame)
         → step_frames m memory u (frames_of m (placed place gs) s.values s.labels) ≡ of_first (λ g. step_code m memory u g (remaining (body_of m (first_function gs)) place)) (frames_of m (placed place gs) s.values s.labels)
     by_frames u [] = refl
