@@ -50,6 +50,7 @@ pub fn own_function(module: &Module, function: u32) -> u32
 }
 
 /// How many locals there are in groups.
+#[inline(always)]
 fn group_total(groups: &[LocalGroup]) -> usize
     requires { total groups.now < 2 ^ 32 }
     ensures { result ≡ total groups.now }
@@ -62,6 +63,7 @@ fn group_total(groups: &[LocalGroup]) -> usize
 }
 
 /// How many locals the module's own function of that number has beside its parameters.
+#[inline(always)]
 pub fn further_locals(module: &Module, function: u32) -> usize
     ensures value { result ≡ further_locals «module».now function }
     ensures fits { result < 2 ^ 32 }
@@ -73,6 +75,7 @@ pub fn further_locals(module: &Module, function: u32) -> usize
 }
 
 /// The type of the module's own function of that number.
+#[inline(always)]
 fn type_of(module: &Module, function: u32) -> Option<&FuncType>
     ensures { option_copied result ≡ type_of «module».now function }
 {
@@ -81,6 +84,7 @@ fn type_of(module: &Module, function: u32) -> Option<&FuncType>
 }
 
 /// How many parameters it has.
+#[inline(always)]
 pub fn params(module: &Module, function: u32) -> usize
     ensures { result ≡ param_count (type_of «module».now function) }
 {
@@ -91,6 +95,7 @@ pub fn params(module: &Module, function: u32) -> usize
 }
 
 /// Whether it gives a value back.
+#[inline(always)]
 pub fn returns(module: &Module, function: u32) -> bool
     ensures { (if result then 1 else 0) ≡ result_count (type_of «module».now function) }
 {

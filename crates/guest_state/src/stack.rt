@@ -149,6 +149,7 @@ impl<T: Copy> Stack<T> {
 }
 
 /// Puts numbers on a stack, the last one on top, and then zeros.
+#[inline(always)]
 pub fn push_all(stack: &mut Stack<u64>, numbers: &[u64], zeros: usize)
     requires { length stack.old.items + length numbers.now + zeros ≤ stack.old.room }
     ensures { stack.new ≡ record stack.old { items = reverse (numbers.now ++ replicate zeros 0) ++ stack.old.items } }

@@ -20,6 +20,7 @@ use super::stack::{Stack, push_all, push_option};
 use int_ops::Cause;
 use std::alloc::{AllocError, Global};
 use std::marker::Model;
+use std::mem;
 use wasm_ast::{Module, Position};
 
 /// The most frames of a thread.
@@ -114,6 +115,26 @@ impl Thread {
         })
     }
 
+    /// Moves the thread out. One without any room, which has finished, stands in its place. No memory is taken, and
+    /// `AllocError` doesn't come.
+    pub fn take(&mut self) -> Result<Thread, AllocError>
+        ensures { IfOk result (λ t. t ≡ self.old) }
+    {
+        let globals = mem::try_take(&mut self.globals)?;
+        let alloc = *globals.allocator();
+        let empty = Thread {
+            values: Stack::without_room(alloc),
+            labels: Stack::without_room(alloc),
+            frames: Stack::without_room(alloc),
+            globals: Vec::new(alloc),
+            base: 0,
+            main: false,
+            full: false,
+        };
+        let taken = mem::replace(self, empty);
+        Ok(Thread { globals, ..taken })
+    }
+
     // The innermost frame.
     #[inline(always)]
     fn innermost(&self) -> OpenFrame
@@ -150,6 +171,7 @@ impl Thread {
     }
 
     // Whether there is room for a frame more and so many values more.
+    #[inline(always)]
     fn has_room(&self, values: usize) -> bool
         requires { 0 < length self.now.frames }
         ensures value { (m : Module) → result ≡ has_room (thread_of m self.now) values }

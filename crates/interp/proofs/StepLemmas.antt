@@ -36,7 +36,7 @@ use Rattle.wasm_steps.specs.Stepped.{Stepped, Stuck, Trapped}
 use Rattle.wasm_steps.proofs.Branches.{result_stands}
 use Rattle.wasm_steps.proofs.Kept.{step_kept}
 use Rattle.wasm_steps.proofs.Operands.{Stands, behind_typed, frame_stands, have_length, taken, taken_values}
-use Rattle.interp.specs.Operands.{CanBranch, HaveLast, HasVariable, IsReady}
+use Rattle.interp.specs.Operands.{CanBranch, HaveLast, HasVariable, IsPlain, IsReady}
 use Rattle.interp.specs.Stops.{stop_of}
 use Rattle.interp.specs.Rows.{chosen_over, chosen_row, left_at, of_first, row_of}
 use Rattle.interp.proofs.ControlLemmas.{br_if_first, br_table_first, branch_found, has_first}
@@ -104,19 +104,6 @@ returns_there memory t f moves = by (nat_lt (length f.operands) f.arity) refl wh
   by true lacks = absurd (moves (rw lacks refl))
   by false enough = grind (arith, nat_tests)
 
--- an instruction that has no inner list and is no branch, call or return
-abbrev pub IsPlain : Instr → Type 0
-IsPlain (instr.Block of body) = ⊥
-IsPlain (instr.Loop of body) = ⊥
-IsPlain (instr.If of first second) = ⊥
-IsPlain (instr.Br n) = ⊥
-IsPlain (instr.BrIf n) = ⊥
-IsPlain (instr.BrTable targets) = ⊥
-IsPlain instr.Return = ⊥
-IsPlain (instr.Call x) = ⊥
-IsPlain (instr.CallIndirect of) = ⊥
-IsPlain i = Unit {0}
-
 pub is_plain : (i : Instr) → ((of : Option ValType) (body : ℕ) → i ≡ instr.Block of body → ⊥) → ((of : Option ValType) (body : ℕ) → i ≡ instr.Loop of body → ⊥) → ((of : Option ValType) (first second : ℕ) → i ≡ instr.If of first second → ⊥)
     → ((n : ℕ) → i ≡ instr.Br n → ⊥) → ((n : ℕ) → i ≡ instr.BrIf n → ⊥) → ((targets : List ℕ × ℕ) → i ≡ instr.BrTable targets → ⊥) → (i ≡ instr.Return → ⊥) → ((x : ℕ) → i ≡ instr.Call x → ⊥) → ((of : ℕ) → i ≡ instr.CallIndirect of → ⊥) → IsPlain i
 is_plain (instr.Block of body) a b c d e f g h k = a of body refl
@@ -129,6 +116,19 @@ is_plain instr.Return a b c d e f g h k = g refl
 is_plain (instr.Call x) a b c d e f g h k = h x refl
 is_plain (instr.CallIndirect of) a b c d e f g h k = k of refl
 is_plain i a b c d e f g h k = tt
+
+-- what only such an instruction is asked
+pub ready_if : (i : Instr) (s : Snapshot) → (IsPlain i → IsReady i s) → IsReady i s
+ready_if (instr.Block of body) s ready = tt
+ready_if (instr.Loop of body) s ready = tt
+ready_if (instr.If of first second) s ready = tt
+ready_if (instr.Br n) s ready = tt
+ready_if (instr.BrIf n) s ready = tt
+ready_if (instr.BrTable targets) s ready = tt
+ready_if instr.Return s ready = tt
+ready_if (instr.Call x) s ready = tt
+ready_if (instr.CallIndirect of) s ready = tt
+ready_if i s ready = ready tt
 
 pub plain_front : (inner : ℕ → Sequence) (i : Instr) (rest : Sequence) → IsPlain i → in_front inner i rest ≡ Plain i rest
 plain_front inner (instr.Block of body) rest p = absurd p
@@ -206,31 +206,38 @@ if_enters : (memory : LinearMemory) (u : GuestThread) (of : Option ValType) (fir
 if_enters memory u of first second rest [] none = absurd (omega arith)
 if_enters memory u of first second rest (c ∷ os) some = (λ g. opened (arity_of of) rest rest (if nat_eq c 0 then second else first) (record g { operands = os }), refl)
 
-module _ (m : Module) (memory : LinearMemory) (place : Position) (s : Snapshot) (some : 0 < length s.frames) (free : s.full ≡ false) (typed_module : is_typed m ≡ true) (is : IsMemory memory)
-    (fits : Fits m (thread_at m place s)) where
+-- what is known of a thread before its next step
+pub record Standing (m : Module) (memory : LinearMemory) (place : Position) (s : Snapshot) : Type 0 where
+  pub frames : 0 < length s.frames
+  pub free : s.full ≡ false
+  pub typed : is_typed m ≡ true
+  pub bytes : IsMemory memory
+  pub fits : Fits m (thread_at m place s)
+
+module _ {m : Module} {memory : LinearMemory} {place : Position} {s : Snapshot} (known : Standing m memory place s) where
   abbrev t : GuestThread
   t = thread_at m place s
 
   abbrev f : Frame
-  f = (has_first m place s some).0
+  f = (has_first m place s known.frames).0
 
   abbrev fs : List Frame
-  fs = (has_first m place s some).1
+  fs = (has_first m place s known.frames).1
 
   e : t.frames ≡ f ∷ fs
-  e = (has_first m place s some).2
+  e = (has_first m place s known.frames).2
 
   pub moves : step m memory t ≡ Stuck → ⊥
-  moves stuck = subst (IsKept m) stuck (step_kept m memory t typed_module is fits)
+  moves stuck = subst (IsKept m) stuck (step_kept m memory t known.typed known.bytes known.fits)
 
   fits_frame : FitsFrame m None f
-  fits_frame = (subst (FitFrames m None) e fits.frames).0
+  fits_frame = (subst (FitFrames m None) e known.fits.frames).0
 
   code_is : f.code ≡ left_at m place s
-  code_is = ap head_code (sym e) ∙ head_code_is m place s some
+  code_is = ap head_code (sym e) ∙ head_code_is m place s known.frames
 
   pub step_is : step m memory t ≡ of_first (λ g. step_code m memory t g (left_at m place s)) t.frames
-  step_is = ap (λ full. if full then Trapped StackFull else step_frames m memory t t.frames) free ∙ by_frames t s.frames where
+  step_is = ap (λ full. if full then Trapped StackFull else step_frames m memory t t.frames) known.free ∙ by_frames t s.frames where
     by_frames : (u : GuestThread) (gs : List OpenFrame)
         → step_frames m memory u (frames_of m (placed place gs) s.values s.labels) ≡ of_first (λ g. step_code m memory u g (remaining (body_of m (first_function gs)) place)) (frames_of m (placed place gs) s.values s.labels)
     by_frames u [] = refl
@@ -278,33 +285,19 @@ module _ (m : Module) (memory : LinearMemory) (place : Position) (s : Snapshot) 
   variable_ready next GlobalSet x at =
       rw (operands_is m place s f fs e) (global_there memory t (left_at m next s) x f.operands (head_moves next (instr.Variable GlobalSet x) at))
 
-  pub plain_ready : (next : Position) (i : Instr) → left_at m place s ≡ Plain i (left_at m next s) → IsPlain i → IsReady i s
-  plain_ready next instr.Unreachable at p = tt
-  plain_ready next instr.Nop at p = tt
-  plain_ready next (instr.Block of body) at p = p
-  plain_ready next (instr.Loop of body) at p = p
-  plain_ready next (instr.If of first second) at p = p
-  plain_ready next (instr.Br n) at p = p
-  plain_ready next (instr.BrIf n) at p = p
-  plain_ready next (instr.BrTable targets) at p = p
-  plain_ready next instr.Return at p = p
-  plain_ready next (instr.Call x) at p = p
-  plain_ready next (instr.CallIndirect of) at p = p
-  plain_ready next instr.Drop at p = rw (operands_is m place s f fs e) (few_one memory t (left_at m next s) f.operands (head_moves next instr.Drop at))
-  plain_ready next instr.Select at p = rw (operands_is m place s f fs e) (few_three memory t (left_at m next s) f.operands (head_moves next instr.Select at))
-  plain_ready next (instr.Variable op x) at p = variable_ready next op x at
-  plain_ready next (instr.Access op arg) at p =
+  pub plain_ready : (next : Position) (i : Instr) → left_at m place s ≡ Plain i (left_at m next s) → IsReady i s
+  plain_ready next instr.Drop at = rw (operands_is m place s f fs e) (few_one memory t (left_at m next s) f.operands (head_moves next instr.Drop at))
+  plain_ready next instr.Select at = rw (operands_is m place s f fs e) (few_three memory t (left_at m next s) f.operands (head_moves next instr.Select at))
+  plain_ready next (instr.Variable op x) at = variable_ready next op x at
+  plain_ready next (instr.Access op arg) at =
       last next (instr.Access op arg) at (access_operands op) (access_results op)
       (λ u after_it. applies (access_operands op) (access_results op) (typed_operands fits_frame.here.types) u (if_true (nat_lt 0 fits_frame.c.memories && is_aligned op arg.align) _ u after_it))
-  plain_ready next instr.MemorySize at p = tt
-  plain_ready next instr.MemoryGrow at p =
+  plain_ready next instr.MemoryGrow at =
       last next instr.MemoryGrow at (I32 ∷ []) (I32 ∷ []) (λ u after_it. applies (I32 ∷ []) (I32 ∷ []) (typed_operands fits_frame.here.types) u (if_true (nat_lt 0 fits_frame.c.memories) _ u after_it))
-  plain_ready next instr.Fence at p = tt
-  plain_ready next (instr.I32Const value) at p = tt
-  plain_ready next (instr.I64Const value) at p = tt
-  plain_ready next (instr.Numeric op) at p =
+  plain_ready next (instr.Numeric op) at =
       last next (instr.Numeric op) at (numeric_operands op) (numeric_result op ∷ []) (λ u after_it. applies (numeric_operands op) (numeric_result op ∷ []) (typed_operands fits_frame.here.types) u after_it)
-  plain_ready next instr.Float at p = head_moves next instr.Float at refl
+  plain_ready next instr.Float at = head_moves next instr.Float at refl
+  plain_ready next i at = tt
 
   pub br_ready : (next : Position) (n : ℕ) → left_at m place s ≡ Plain (instr.Br n) (left_at m next s) → CanBranch n 0 s
   br_ready next n at = branch_found m place s f fs e memory n 0 (head_moves next (instr.Br n) at) (omega arith)

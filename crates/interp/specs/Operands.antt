@@ -29,31 +29,29 @@ HasVariable LocalTee x s = (x < length (locals_of s)) × (1 ≤ length (operands
 HasVariable GlobalGet x s = x < length s.globals
 HasVariable GlobalSet x s = (x < length s.globals) × (1 ≤ length (operands_of s))
 
--- What an instruction that has no inner list, and is no branch, call or return, finds of a thread. No other comes here but
--- `unreachable`.
+-- it has no inner list, and is no branch, call or return
+abbrev pub IsPlain : Instr → Type 0
+IsPlain (instr.Block of body) = ⊥
+IsPlain (instr.Loop of body) = ⊥
+IsPlain (instr.If of first second) = ⊥
+IsPlain (instr.Br n) = ⊥
+IsPlain (instr.BrIf n) = ⊥
+IsPlain (instr.BrTable targets) = ⊥
+IsPlain instr.Return = ⊥
+IsPlain (instr.Call x) = ⊥
+IsPlain (instr.CallIndirect of) = ⊥
+IsPlain i = Unit {0}
+
+-- what such an instruction finds of a thread; of any other nothing is asked
 abbrev pub IsReady : Instr → Snapshot → Type 0
-IsReady instr.Unreachable s = Unit {0}
-IsReady instr.Nop s = Unit {0}
-IsReady (instr.Block of body) s = ⊥
-IsReady (instr.Loop of body) s = ⊥
-IsReady (instr.If of first second) s = ⊥
-IsReady (instr.Br depth) s = ⊥
-IsReady (instr.BrIf depth) s = ⊥
-IsReady (instr.BrTable targets) s = ⊥
-IsReady instr.Return s = ⊥
-IsReady (instr.Call function) s = ⊥
-IsReady (instr.CallIndirect of) s = ⊥
 IsReady instr.Drop s = 1 ≤ length (operands_of s)
 IsReady instr.Select s = 3 ≤ length (operands_of s)
 IsReady (instr.Variable op x) s = HasVariable op x s
 IsReady (instr.Access op arg) s = HaveLast (access_operands op) (operands_of s)
-IsReady instr.MemorySize s = Unit {0}
 IsReady instr.MemoryGrow s = HaveLast (I32 ∷ []) (operands_of s)
-IsReady instr.Fence s = Unit {0}
-IsReady (instr.I32Const value) s = Unit {0}
-IsReady (instr.I64Const value) s = Unit {0}
 IsReady (instr.Numeric op) s = HaveLast (numeric_operands op) (operands_of s)
 IsReady instr.Float s = ⊥
+IsReady i s = Unit {0}
 
 -- how many operands a branch takes along: that to a label, or that out of all blocks
 abbrev pub taken_along : ℕ → Snapshot → ℕ

@@ -150,6 +150,7 @@ fn reached(memory: &Memory, at: u64, width: u8) -> Result<u32, Cause>
 
 /// What a thread stands at before a wait: the wait, or a trap, first where no threads share the memory, then as at an atomic
 /// access.
+#[inline(always)]
 pub fn wait(memory: &Memory, thread: &Thread, of: IntType, arg: MemArg) -> Stop
     requires frames { 0 < length thread.now.frames }
     requires operands { HaveLast (access_operands (Access.Wait of)) (operands_of thread.now) }
@@ -167,6 +168,7 @@ pub fn wait(memory: &Memory, thread: &Thread, of: IntType, arg: MemArg) -> Stop
 }
 
 /// What a thread stands at before a notify: the notify, or a trap as at an atomic access of four bytes.
+#[inline(always)]
 pub fn notify(memory: &Memory, thread: &Thread, arg: MemArg) -> Stop
     requires frames { 0 < length thread.now.frames }
     requires operands { HaveLast (access_operands Access.Notify) (operands_of thread.now) }

@@ -65,6 +65,7 @@ pub fn found(valid: &Valid, of: u32, place: u64) -> Result<u32, Cause>
 
 /// What the thread stands at before a call of the imported function of that index, where so many operands stand over its
 /// arguments: the call, or a trap where its answer would find no room.
+#[inline(always)]
 fn stand(valid: &Valid, thread: &Thread, function: u32, over: usize) -> Stop
     requires frames { 0 < length thread.now.frames }
     requires one { over ≤ 1 }
@@ -137,6 +138,7 @@ pub fn call(
 }
 
 /// An indirect call of a function of the type of that index.
+#[inline(always)]
 pub fn call_indirect(valid: &Valid, thread: &mut Thread, of: u32, behind: Position) -> Reached
     requires frames { 0 < length thread.old.frames }
     requires operands { 1 ≤ length (operands_of thread.old) }

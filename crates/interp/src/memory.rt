@@ -44,9 +44,9 @@ pub fn form_width(of: Form) -> u8
     }
 }
 
-/// A load. `OutOfBounds` comes exactly where its bytes pass the end of the memory.
+// A load of a form that the caller knows when it is compiled. `OutOfBounds` comes exactly where its bytes pass the end of the memory.
 #[inline(always)]
-pub fn load(memory: &Memory, thread: &mut Thread, op: LoadOp, arg: MemArg) -> Result<(), Cause>
+fn load_as(memory: &Memory, thread: &mut Thread, op: LoadOp, arg: MemArg) -> Result<(), Cause>
     requires frames { 0 < length thread.old.frames }
     requires operands { HaveLast (access_operands (Access.Load op)) (operands_of thread.old) }
     ensures { Runs (Instr.Access (Access.Load op) arg) result memory.now memory.now thread.old thread.new }
@@ -56,9 +56,32 @@ pub fn load(memory: &Memory, thread: &mut Thread, op: LoadOp, arg: MemArg) -> Re
     give(thread, 1, Ok(extend_loaded(op, number)))
 }
 
-/// A store. `OutOfBounds` comes exactly where its bytes pass the end of the memory.
+/// A load. `OutOfBounds` comes exactly where its bytes pass the end of the memory.
 #[inline(always)]
-pub fn store(memory: &mut Memory, thread: &mut Thread, of: Form, arg: MemArg) -> Result<(), Cause>
+pub fn load(memory: &Memory, thread: &mut Thread, op: LoadOp, arg: MemArg) -> Result<(), Cause>
+    requires frames { 0 < length thread.old.frames }
+    requires operands { HaveLast (access_operands (Access.Load op)) (operands_of thread.old) }
+    ensures { Runs (Instr.Access (Access.Load op) arg) result memory.now memory.now thread.old thread.new }
+{
+    match op {
+        LoadOp::I32 => load_as(memory, thread, LoadOp::I32, arg),
+        LoadOp::I64 => load_as(memory, thread, LoadOp::I64, arg),
+        LoadOp::I32From8S => load_as(memory, thread, LoadOp::I32From8S, arg),
+        LoadOp::I32From8U => load_as(memory, thread, LoadOp::I32From8U, arg),
+        LoadOp::I32From16S => load_as(memory, thread, LoadOp::I32From16S, arg),
+        LoadOp::I32From16U => load_as(memory, thread, LoadOp::I32From16U, arg),
+        LoadOp::I64From8S => load_as(memory, thread, LoadOp::I64From8S, arg),
+        LoadOp::I64From8U => load_as(memory, thread, LoadOp::I64From8U, arg),
+        LoadOp::I64From16S => load_as(memory, thread, LoadOp::I64From16S, arg),
+        LoadOp::I64From16U => load_as(memory, thread, LoadOp::I64From16U, arg),
+        LoadOp::I64From32S => load_as(memory, thread, LoadOp::I64From32S, arg),
+        LoadOp::I64From32U => load_as(memory, thread, LoadOp::I64From32U, arg),
+    }
+}
+
+// A store of a form that the caller knows when it is compiled. `OutOfBounds` comes exactly where its bytes pass the end of the memory.
+#[inline(always)]
+fn store_as(memory: &mut Memory, thread: &mut Thread, of: Form, arg: MemArg) -> Result<(), Cause>
     requires frames { 0 < length thread.old.frames }
     requires operands { HaveLast (access_operands (Access.Store of)) (operands_of thread.old) }
     ensures { Runs (Instr.Access (Access.Store of) arg) result memory.old memory.new thread.old thread.new }
@@ -68,6 +91,24 @@ pub fn store(memory: &mut Memory, thread: &mut Thread, of: Form, arg: MemArg) ->
     memory.store(at, form_width(of), value)?;
     remove(thread, 2);
     Ok(())
+}
+
+/// A store. `OutOfBounds` comes exactly where its bytes pass the end of the memory.
+#[inline(always)]
+pub fn store(memory: &mut Memory, thread: &mut Thread, of: Form, arg: MemArg) -> Result<(), Cause>
+    requires frames { 0 < length thread.old.frames }
+    requires operands { HaveLast (access_operands (Access.Store of)) (operands_of thread.old) }
+    ensures { Runs (Instr.Access (Access.Store of) arg) result memory.old memory.new thread.old thread.new }
+{
+    match of {
+        Form::I32 => store_as(memory, thread, Form::I32, arg),
+        Form::I64 => store_as(memory, thread, Form::I64, arg),
+        Form::I32Low8 => store_as(memory, thread, Form::I32Low8, arg),
+        Form::I32Low16 => store_as(memory, thread, Form::I32Low16, arg),
+        Form::I64Low8 => store_as(memory, thread, Form::I64Low8, arg),
+        Form::I64Low16 => store_as(memory, thread, Form::I64Low16, arg),
+        Form::I64Low32 => store_as(memory, thread, Form::I64Low32, arg),
+    }
 }
 
 /// `memory.size`. `StackFull` comes exactly where there are 65,536 values.
@@ -80,6 +121,7 @@ pub fn size(memory: &Memory, thread: &mut Thread) -> Result<(), Cause>
 }
 
 /// `memory.grow`, which never traps. `AllocError` is want of memory and nothing else; nothing is said of the thread then.
+#[inline(always)]
 pub fn grow(memory: &mut Memory, thread: &mut Thread) -> Result<(), AllocError>
     requires frames { 0 < length thread.old.frames }
     requires operands { HaveLast (ValType.I32 ∷ []) (operands_of thread.old) }

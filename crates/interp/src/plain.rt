@@ -1,8 +1,8 @@
 // Instructions without an inner list that don't leave the order of their list.
-ghost use Rattle.std.specs.Prelude.{◌≡◌, ◌<◌, IfOk, IfErr, OnOk, Ok, Err, length};
+ghost use Rattle.std.specs.Prelude.{◌≡◌, ◌<◌, IfOk, IfErr, IfSome, None, OnOk, Ok, Err, length};
 ghost use Rattle.wasm_ast.specs.Operators.{access_operands};
 ghost use Rattle.guest_state.specs.Snapshot.{operands_of};
-ghost use Rattle.interp.specs.Operands.{HaveLast, IsReady};
+ghost use Rattle.interp.specs.Operands.{HaveLast, IsPlain, IsReady};
 ghost use Rattle.interp.specs.Rows.{Comes};
 
 use crate::atomic::{atomic_load, atomic_store, compare_exchange, notify, rmw, wait};
@@ -47,29 +47,34 @@ fn access(memory: &mut Memory, thread: &mut Thread, op: Access, arg: MemArg) -> 
     }
 }
 
-/// An instruction that has no inner list and is no branch, call or return. It goes on, or the thread stands before it.
-/// `AllocError` is want of memory for `memory.grow` and nothing else; nothing is said of the thread then.
+/// An instruction that has no inner list and is no branch, call or return: it goes on, or the thread stands before it.
+/// Any other gives none, and nothing changes. `AllocError` is want of memory for `memory.grow` and nothing else; nothing
+/// is said of the thread then.
 #[inline(always)]
 pub fn plain(
     memory: &mut Memory,
     thread: &mut Thread,
     instr: &Instr,
-) -> Result<Result<(), Stop>, AllocError>
+) -> Result<Option<Result<(), Stop>>, AllocError>
     requires frames { 0 < length thread.old.frames }
     requires ready { IsReady instr.now thread.old }
-    ensures { IfOk result (λ came. Comes instr.now came memory.old memory.new thread.old thread.new) }
+    ensures comes { IfOk result (λ came. IfSome came (λ done. Comes instr.now done memory.old memory.new thread.old thread.new)) }
+    ensures plain { IfOk result (λ came. IfSome came (λ done. IsPlain instr.now)) }
+    ensures other { IfOk result (λ came. came ≡ None → IsPlain instr.now → ⊥) }
+    ensures unchanged { IfOk result (λ came. came ≡ None → (thread.new ≡ thread.old) × (memory.new ≡ memory.old)) }
 {
     Ok(match instr {
-        Instr::Nop | Instr::Fence => Ok(()),
-        Instr::Drop => stops(drop_operand(thread)),
-        Instr::Select => stops(select(thread)),
-        Instr::Variable(op, index) => stops(variable(thread, *op, *index)),
-        Instr::Access(op, arg) => access(memory, thread, *op, *arg),
-        Instr::MemorySize => stops(size(memory, thread)),
-        Instr::MemoryGrow => Ok(grow(memory, thread)?),
-        Instr::I32Const(value) => stops(i32_const(thread, value)),
-        Instr::I64Const(value) => stops(i64_const(thread, value)),
-        Instr::Numeric(op) => stops(numeric(thread, *op)),
-        _ => Err(Stop::Trap(Cause::Unreachable)),
+        Instr::Nop | Instr::Fence => Some(Ok(())),
+        Instr::Drop => Some(stops(drop_operand(thread))),
+        Instr::Select => Some(stops(select(thread))),
+        Instr::Variable(op, index) => Some(stops(variable(thread, *op, *index))),
+        Instr::Access(op, arg) => Some(access(memory, thread, *op, *arg)),
+        Instr::MemorySize => Some(stops(size(memory, thread))),
+        Instr::MemoryGrow => Some(Ok(grow(memory, thread)?)),
+        Instr::I32Const(value) => Some(stops(i32_const(thread, value))),
+        Instr::I64Const(value) => Some(stops(i64_const(thread, value))),
+        Instr::Numeric(op) => Some(stops(numeric(thread, *op))),
+        Instr::Unreachable | Instr::Float => Some(Err(Stop::Trap(Cause::Unreachable))),
+        _ => None,
     })
 }

@@ -54,40 +54,45 @@ pub fn advance(
         return Ok(Stopped { ran: 0, stop });
     }
     let module = valid.module();
+    // The thread is moved out, so that what each step changes of it is kept in registers.
+    let mut own = thread.take()?;
     let mut ran: u64 = 0;
-    let mut code = body(module, thread.function());
-    let mut place = thread.place();
+    let mut code = body(module, own.function());
+    let mut place = own.place();
     let mut list = code.list(place.list);
     while ran < max {
-        match step(valid, memory, thread, list, place)? {
+        match step(valid, memory, &mut own, list, place)? {
             Reached::Behind => place = place.next(),
             Reached::At(to) => {
                 place = to;
                 list = code.list(place.list);
             }
             Reached::Called => {
-                code = body(module, thread.function());
+                code = body(module, own.function());
                 place = Position::start(0);
                 list = code.list(0);
             }
             Reached::Returned => {
                 ran += 1;
-                if thread.is_finished() {
+                if own.is_finished() {
                     let stop = Stop::Finished;
+                    *thread = own;
                     return Ok(Stopped { ran, stop });
                 }
-                place = thread.place();
-                code = body(module, thread.function());
+                place = own.place();
+                code = body(module, own.function());
                 list = code.list(place.list);
                 continue;
             }
             Reached::Stands(stop) => {
+                *thread = own;
                 thread.rest_at(place);
                 return Ok(Stopped { ran, stop });
             }
         }
         ran += 1;
     }
+    *thread = own;
     let stop = match stop_at(valid, memory, thread, list, place) {
         Some(stop) => stop,
         None => Stop::Spent,

@@ -1,5 +1,5 @@
 // One step: it picks the group of the next instruction.
-ghost use Rattle.std.specs.Prelude.{◌≡◌, ◌+◌, ◌<◌, ◌^◌, false, if◌then◌else◌, IfOk, IsSome, length, option_copied};
+ghost use Rattle.std.specs.Prelude.{◌≡◌, ◌+◌, ◌<◌, ◌^◌, false, if◌then◌else◌, IfOk, IsSome, Some, length, option_copied};
 ghost use Rattle.linear_memory.specs.LinearMemory.{LinearMemory};
 ghost use Rattle.wasm_ast.specs.Position.{IsInstrAt, IsList, next};
 ghost use Rattle.wasm_ast.specs.Sequence.{Sequence};
@@ -8,6 +8,7 @@ ghost use Rattle.guest_state.specs.Snapshot.{innermost_body, thread_at};
 ghost use Rattle.wasm_steps.specs.Control.{arity_of};
 ghost use Rattle.wasm_steps.specs.Kept.{IsMemory};
 ghost use Rattle.wasm_steps.specs.Step.{step};
+ghost use Rattle.interp.specs.Operands.{IsPlain};
 ghost use Rattle.interp.specs.Reached.{Reaches};
 
 use crate::call::{call, call_indirect};
@@ -37,6 +38,50 @@ fn carries(of: Option<ValType>) -> bool
     of.is_some()
 }
 
+/// A step at an instruction that has an inner list or is a branch, call or return.
+#[inline(always)]
+fn control(
+    valid: &Valid,
+    memory: &Memory,
+    thread: &mut Thread,
+    list: &[Instr],
+    place: Position,
+    instr: &Instr,
+) -> Reached
+    requires frames { 0 < length thread.old.frames }
+    requires free { thread.old.full ≡ false }
+    requires fits { Fits valid.now (thread_at valid.now place thread.old) }
+    requires bytes { IsMemory memory.now }
+    requires list { IsList (innermost_body valid.now thread.old) place.list list.now }
+    requires room { place.index + 1 < 2 ^ 64 }
+    requires instr { IsInstrAt (innermost_body valid.now thread.old) place (Some instr.now) }
+    requires control { IsPlain instr.now → ⊥ }
+    ensures { Reaches valid.now (next place) (step valid.now memory.now (thread_at valid.now place thread.old)) result memory.now memory.now thread.old thread.new }
+{
+    let _module = valid.module();
+    let behind = place.next();
+    let last = Position {
+        list: place.list,
+        index: list.len(),
+    };
+    match instr {
+        Instr::Block { of, body } => enter(thread, behind, behind, carries(*of), *body),
+        Instr::Loop { of: _, body } => enter(thread, place, behind, false, *body),
+        Instr::If {
+            of,
+            then,
+            otherwise,
+        } => choose(thread, behind, carries(*of), *then, *otherwise),
+        Instr::Br(depth) => br(thread, *depth, last),
+        Instr::BrIf(depth) => br_if(thread, *depth, last),
+        Instr::BrTable(targets) => br_table(thread, targets, last),
+        Instr::Return => return_(thread),
+        Instr::Call(function) => call(valid, thread, *function, 0, behind),
+        Instr::CallIndirect(of) => call_indirect(valid, thread, *of, behind),
+        _ => unreachable!(),
+    }
+}
+
 /// Runs the next step of a thread that stands at a place of a list, or says what it stands at. `AllocError` is want of memory
 /// for `memory.grow` and nothing else; nothing is said of the thread then.
 #[inline(always)]
@@ -59,28 +104,10 @@ pub fn step(
     let Some(instr) = instruction(list, place) else {
         return Ok(end(thread));
     };
-    let behind = place.next();
-    let last = Position {
-        list: place.list,
-        index: list.len(),
-    };
-    match instr {
-        Instr::Block { of, body } => Ok(enter(thread, behind, behind, carries(*of), *body)),
-        Instr::Loop { of: _, body } => Ok(enter(thread, place, behind, false, *body)),
-        Instr::If {
-            of,
-            then,
-            otherwise,
-        } => Ok(choose(thread, behind, carries(*of), *then, *otherwise)),
-        Instr::Br(depth) => Ok(br(thread, *depth, last)),
-        Instr::BrIf(depth) => Ok(br_if(thread, *depth, last)),
-        Instr::BrTable(targets) => Ok(br_table(thread, targets, last)),
-        Instr::Return => Ok(return_(thread)),
-        Instr::Call(function) => Ok(call(valid, thread, *function, 0, behind)),
-        Instr::CallIndirect(of) => Ok(call_indirect(valid, thread, *of, behind)),
-        _ => match plain(memory, thread, instr)? {
-            Ok(()) => Ok(Reached::Behind),
-            Err(stop) => Ok(Reached::Stands(stop)),
-        },
+    // The instructions that most steps run come first, so that each has one jump.
+    match plain(memory, thread, instr)? {
+        Some(Ok(())) => Ok(Reached::Behind),
+        Some(Err(stop)) => Ok(Reached::Stands(stop)),
+        None => Ok(control(valid, memory, thread, list, place, instr)),
     }
 }

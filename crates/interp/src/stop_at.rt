@@ -12,7 +12,7 @@ ghost use Rattle.wasm_steps.specs.Control.{enters};
 ghost use Rattle.wasm_steps.specs.Kept.{IsMemory};
 ghost use Rattle.wasm_steps.specs.Step.{step};
 ghost use Rattle.wasm_steps.specs.Stepped.{pushes};
-ghost use Rattle.interp.specs.Operands.{HasVariable, HaveLast, IsReady};
+ghost use Rattle.interp.specs.Operands.{HasVariable, HaveLast, IsPlain, IsReady};
 ghost use Rattle.interp.specs.Rows.{left_at, of_first, row_of};
 ghost use Rattle.interp.specs.Stops.{stop_of, trap_of};
 ghost use Rattle.linear_memory.specs.Accesses.{accessed, accessed_atomically};
@@ -127,6 +127,7 @@ fn memory_stop(memory: &Memory, thread: &Thread, op: Access, arg: MemArg) -> Opt
 /// What a thread stands at before an instruction that has no inner list and is no branch, call or return, if not a step.
 fn plain_stop(memory: &Memory, thread: &Thread, instr: &Instr) -> Option<Stop>
     requires frames { 0 < length thread.now.frames }
+    requires plain { IsPlain instr.now }
     requires ready { IsReady instr.now thread.now }
     ensures { (m : Module) (place next : Position) → result ≡ stop_of (row_of m memory.now place next instr.now thread.now) }
 {

@@ -76,7 +76,7 @@ impl Memory {
     }
 
     /// Whether the `len` bytes at the address `at` lie within the memory. An empty range at its end does.
-    #[inline]
+    #[inline(always)]
     pub fn holds(&self, at: u64, len: u64) -> bool
         ensures { result ≡ is_within self.now.bytes at len }
     {
@@ -88,7 +88,7 @@ impl Memory {
 
     /// The number in the `width` bytes at the address `at`, the lowest byte first; `width` is 1, 2, 4 or 8.
     /// `OutOfBounds` comes exactly where they pass the end of the memory. The address doesn't wrap.
-    #[inline]
+    #[inline(always)]
     pub fn load(&self, at: u64, width: u8) -> Result<u64, Cause>
         requires { IsAccessWidth width }
         ensures value { result ≡ loaded self.now at width }
@@ -102,7 +102,7 @@ impl Memory {
 
     /// Puts the low `width` bytes of a number at the address `at`; `width` is 1, 2, 4 or 8. `OutOfBounds`
     /// comes exactly where they pass the end of the memory, which is unchanged then. No memory is taken.
-    #[inline]
+    #[inline(always)]
     pub fn store(&mut self, at: u64, width: u8, value: u64) -> Result<(), Cause>
         requires { IsAccessWidth width }
         ensures ok { OnOk result (stored self.old at width value ≡ Ok self.new) }

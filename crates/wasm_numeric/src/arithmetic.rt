@@ -12,6 +12,7 @@ use int_ops::{
 use wasm_ast::{BinaryOp, IntType, UnaryOp};
 
 /// A count of bits of the operand.
+#[inline(always)]
 pub fn unary(of: IntType, op: UnaryOp, a: u64) -> u64
     requires { a < 2 ^ bits of }
     ensures value { result ≡ unary_value of op a }
@@ -23,6 +24,7 @@ pub fn unary(of: IntType, op: UnaryOp, a: u64) -> u64
     }
 }
 
+#[inline(always)]
 fn unary_i32(op: UnaryOp, a: u32) -> u32
     ensures { result ≡ unary_value IntType.I32 op a }
 {
@@ -33,6 +35,7 @@ fn unary_i32(op: UnaryOp, a: u32) -> u32
     }
 }
 
+#[inline(always)]
 fn unary_i64(op: UnaryOp, a: u64) -> u64
     ensures { result ≡ unary_value IntType.I64 op a }
 {
@@ -45,6 +48,7 @@ fn unary_i64(op: UnaryOp, a: u64) -> u64
 
 /// The operator on two operands, the first of them pushed first. `DivideByZero` and `Overflow` come
 /// exactly where a division or a remainder traps.
+#[inline(always)]
 pub fn binary(of: IntType, op: BinaryOp, a: u64, b: u64) -> Result<u64, Cause>
     requires first { a < 2 ^ bits of }
     requires second { b < 2 ^ bits of }
@@ -60,6 +64,7 @@ pub fn binary(of: IntType, op: BinaryOp, a: u64, b: u64) -> Result<u64, Cause>
     }
 }
 
+#[inline(always)]
 fn binary_i32(op: BinaryOp, a: u32, b: u32) -> Result<u32, Cause>
     ensures { result ≡ binary_value IntType.I32 op a b }
 {
@@ -82,6 +87,7 @@ fn binary_i32(op: BinaryOp, a: u32, b: u32) -> Result<u32, Cause>
     }
 }
 
+#[inline(always)]
 fn binary_i64(op: BinaryOp, a: u64, b: u64) -> Result<u64, Cause>
     ensures { result ≡ binary_value IntType.I64 op a b }
 {

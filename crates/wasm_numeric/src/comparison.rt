@@ -11,6 +11,7 @@ use int_ops::{
 use wasm_ast::{CompareOp, IntType};
 
 /// `eqz`: 1 where the operand is 0, and 0 elsewhere.
+#[inline(always)]
 pub fn test(of: IntType, a: u64) -> u64
     requires { a < 2 ^ bits of }
     ensures value { result ≡ test_value of a }
@@ -23,6 +24,7 @@ pub fn test(of: IntType, a: u64) -> u64
 }
 
 /// The comparison of two operands, the first of them pushed first: 1 where it holds, and 0 elsewhere.
+#[inline(always)]
 pub fn compare(of: IntType, op: CompareOp, a: u64, b: u64) -> u64
     requires first { a < 2 ^ bits of }
     requires second { b < 2 ^ bits of }
@@ -35,6 +37,7 @@ pub fn compare(of: IntType, op: CompareOp, a: u64, b: u64) -> u64
     }
 }
 
+#[inline(always)]
 fn compare_i32(op: CompareOp, a: u32, b: u32) -> u32
     ensures { result ≡ compare_value IntType.I32 op a b }
 {
@@ -52,6 +55,7 @@ fn compare_i32(op: CompareOp, a: u32, b: u32) -> u32
     }
 }
 
+#[inline(always)]
 fn compare_i64(op: CompareOp, a: u64, b: u64) -> u32
     ensures { result ≡ compare_value IntType.I64 op a b }
 {

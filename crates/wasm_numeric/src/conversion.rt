@@ -12,6 +12,7 @@ use int_ops::{
 use wasm_ast::{ConvertOp, LoadOp};
 
 /// The operand in the other type.
+#[inline(always)]
 pub fn convert(op: ConvertOp, a: u64) -> u64
     requires { a < 2 ^ bits (source op) }
     ensures value { result ≡ convert_value op a }
@@ -25,6 +26,7 @@ pub fn convert(op: ConvertOp, a: u64) -> u64
 }
 
 /// The value that a load gives for the number that its bytes stand for.
+#[inline(always)]
 pub fn extend_loaded(op: LoadOp, n: u64) -> u64
     requires { n < 2 ^ (8 * 2 ^ load_exponent op) }
     ensures value { result ≡ load_value op n }

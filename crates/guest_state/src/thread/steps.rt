@@ -173,6 +173,7 @@ impl Thread {
     /// and the caller rests behind the call (4.4.7). `StackFull` comes exactly where there would be more than 1,024
     /// frames or 65,536 values, the locals of the new frame among them; the thread is unchanged then. No memory is
     /// taken.
+    #[inline(always)]
     pub fn call(&mut self, module: &Module, function: u32, behind: Position) -> Result<(), Cause>
         requires some { 0 < length self.old.frames }
         requires enough { param_count (type_of «module».now function) ≤ length (operands_of self.old) }
@@ -202,6 +203,7 @@ impl Thread {
 
     /// Returns from the innermost function: its result, if it gives one back, stands above the operands of the frame
     /// below, which is at its own place (4.4.7). Where there is no frame below, the thread has finished.
+    #[inline(always)]
     pub fn return_(&mut self)
         requires some { 0 < length self.old.frames }
         requires enough { result_arity self.old ≤ length (operands_of self.old) }
@@ -268,6 +270,7 @@ impl Thread {
 
     /// Whether a call of the module's own function of that number would find room, once so many operands that stand over
     /// its arguments are gone.
+    #[inline(always)]
     pub fn call_fits(&self, module: &Module, function: u32, over: usize) -> bool
         requires some { 0 < length self.now.frames }
         requires over { over ≤ length (operands_of self.now) }

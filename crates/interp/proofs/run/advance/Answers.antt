@@ -1,9 +1,9 @@
-use Rattle.std.proofs.Common.{refl, sym, ap, ◌∙◌, arith}
+use Rattle.std.proofs.Common.{refl, sym, ap, ◌∙◌, arith, Some}
 use Rattle.wasm_ast.specs.Position.{next}
 use Rattle.guest_state.specs.Module.{body_of}
 use Rattle.guest_state.specs.Snapshot.{thread_at, thread_of}
 use Rattle.interp.specs.Reached.{first_place}
-use Rattle.interp.proofs.AfterLemmas.{function_there, went_on}
+use Rattle.interp.proofs.AfterLemmas.{function_there, never_spent, went_on}
 use Rattle.interp.proofs.run.advance.Goals as goal
 use Rattle.interp.proofs.run.advance.Goals.{in-Behind, in-At, in-Called}
 
@@ -14,7 +14,7 @@ pub body-code-requires-in-Called : goal.body-code-requires-in-Called
 body-code-requires-in-Called c =
     let m = c.args.valid.now in
     let inv = c.loop-ran.invariant in
-    let s = c.loop-ran.thread in
+    let s = c.loop-ran.own in
     let place = c.loop-ran.place in
     let typed = rw c.module-module.ensures.value at c.module-module.ensures.typed in
     let reached = rw c.in-Called.is at c.in_ok-step.ensures.reaches in
@@ -26,7 +26,7 @@ pub returns-then-is_finished-2-clause-steps : goal.returns-then-is_finished-2-cl
 returns-then-is_finished-2-clause-steps c =
     let m = c.args.valid.now in
     let inv = c.loop-ran.invariant in
-    let s = c.loop-ran.thread in
+    let s = c.loop-ran.own in
     let place = c.loop-ran.place in
     let typed = rw c.module-module.ensures.value at c.module-module.ensures.typed in
     let reached = rw c.in-Returned.is at c.in_ok-step.ensures.reaches in
@@ -37,7 +37,7 @@ pub returns-then-is_finished-2-clause-fits : goal.returns-then-is_finished-2-cla
 returns-then-is_finished-2-clause-fits c =
     let m = c.args.valid.now in
     let inv = c.loop-ran.invariant in
-    let s = c.loop-ran.thread in
+    let s = c.loop-ran.own in
     let place = c.loop-ran.place in
     let typed = rw c.module-module.ensures.value at c.module-module.ensures.typed in
     let reached = rw c.in-Returned.is at c.in_ok-step.ensures.reaches in
@@ -48,7 +48,7 @@ pub body-code-requires-in-Returned : goal.body-code-requires-in-Returned
 body-code-requires-in-Returned c =
     let m = c.args.valid.now in
     let inv = c.loop-ran.invariant in
-    let s = c.loop-ran.thread in
+    let s = c.loop-ran.own in
     let place = c.loop-ran.place in
     let typed = rw c.module-module.ensures.value at c.module-module.ensures.typed in
     let reached = rw c.in-Returned.is at c.in_ok-step.ensures.reaches in
@@ -61,7 +61,7 @@ pub loop-ran-preserved-in-Returned : goal.loop-ran-preserved-in-Returned
 loop-ran-preserved-in-Returned c =
     let m = c.args.valid.now in
     let inv = c.loop-ran.invariant in
-    let s = c.loop-ran.thread in
+    let s = c.loop-ran.own in
     let place = c.loop-ran.place in
     let typed = rw c.module-module.ensures.value at c.module-module.ensures.typed in
     let reached = rw c.in-Returned.is at c.in_ok-step.ensures.reaches in
@@ -79,14 +79,19 @@ loop-ran-preserved-in-Returned c =
       list = c.list-list-in-Returned.ensures;
     }
 
+pub returns-in-Stands-clause-spent : goal.returns-in-Stands-clause-spent
+returns-in-Stands-clause-spent c spent =
+    let reached = rw c.in-Stands.is at c.in_ok-step.ensures.reaches in
+    absurd (never_spent _ (reached.step ∙ ap Some spent))
+
 pub loop-ran-preserved : goal.loop-ran-preserved
 loop-ran-preserved c =
     let m = c.args.valid.now in
     let inv = c.loop-ran.invariant in
-    let s = c.loop-ran.thread in
+    let s = c.loop-ran.own in
     let place = c.loop-ran.place in
     let typed = rw c.module-module.ensures.value at c.module-module.ensures.typed in
-    elim c.match-branch-2.branch [
+    elim c.match-branch-3.branch [
       | in-Behind w ↦
           let reached = rw w.in-Behind.is at c.in_ok-step.ensures.reaches in
           let went = went_on c.loop-ran.ran m c.args.memory.now c.loop-ran.memory c.step.new.memory (thread_of m c.args.thread.now) (thread_at m place s) (thread_at m (next place) c.step.new.thread) typed inv.bytes inv.fits inv.steps reached.step in

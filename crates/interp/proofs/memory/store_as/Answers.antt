@@ -4,7 +4,7 @@ use Rattle.wasm_steps.specs.Memory.{leaves_memory, step_store}
 use Rattle.interp.specs.Rows.{left_at}
 use Rattle.interp.proofs.MemoryLemmas.{last_two}
 use Rattle.interp.proofs.RowLemmas.{operands_row}
-use Rattle.interp.proofs.memory.store.Goals as goal
+use Rattle.interp.proofs.memory.store_as.Goals as goal
 
 pub returns : goal.returns
 returns c =
