@@ -8,6 +8,7 @@ use Rattle.open_desc.specs.declared.description.Kind.{Kind}
 use Rattle.open_desc.specs.declared.description.Kind.TheVariants.{Input, Output, Error, Dir}
 use Rattle.open_desc.specs.declared.description.Description.{Description}
 use Rattle.kernel_core.specs.Ending.{Open}
+use Rattle.kernel_core.specs.Signals.{first_dispositions}
 use Rattle.kernel_core.specs.Threads.{Handed, Fresh}
 use Rattle.kernel_core.specs.Kernel.{Kernel, Live}
 
@@ -27,16 +28,23 @@ first_descriptions =
 abbrev pub first_table : Table
 first_table = insert (insert (insert (insert empty 0 (descriptor 0 false)) 1 (descriptor 1 false)) 2 (descriptor 2 false)) 3 (descriptor 3 false)
 
--- the description of the root holds its node
+-- the root is held twice: by its description, and as the current directory of process 1
 abbrev pub first_kernel : FileTree → List ℕ → Kernel
 first_kernel tree input = record {
-  tree = hold tree root;
+  tree = hold (hold tree root) root;
   input = input;
   descriptions = first_descriptions;
   next_description = 4;
-  descriptors = insert empty 1 first_table;
+  pipes = empty;
+  next_pipe = 0;
   unjoined = insert empty 1 (record { parent = 0; state = Live });
+  next_process = 2;
+  descriptors = insert empty 1 first_table;
+  directories = insert empty 1 root;
+  signals = insert empty 1 first_dispositions;
+  next_threads = insert empty 1 2;
   threads = insert empty (1, 1) (Handed Fresh);
+  futexes = empty;
   time = 0;
   ending = Open;
 }

@@ -4,10 +4,3 @@ use Rattle.std.specs.Prelude.{ℕ}
 pub data End : Type 0 where
   Exited : (code : ℕ) → End
   Killed : (signal : ℕ) → End
-
--- the signals of a trap and of spent fuel: abrt and xcpu
-abbrev pub abrt : ℕ
-abrt = 6
-
-abbrev pub xcpu : ℕ
-xcpu = 24

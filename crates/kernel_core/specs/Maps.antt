@@ -1,8 +1,9 @@
 -- Finite maps, value by value.
-use Rattle.std.specs.Prelude.{map}
+use Rattle.std.specs.Option.{option_map_or}
 use Rattle.std.specs.declared.cmp.Ordering.{Ordering}
-use Rattle.std.specs.FinMap.{FinMap, entries, from_entries}
+use Rattle.std.specs.FinMap.{FinMap, get, insert}
+pub use Rattle.finite_maps.specs.Maps.{mapped}
 
--- the map with each value changed, by its key
-abbrev pub mapped : {K X Y : Type 0} {R : K → K → Ordering} → (K → X → Y) → FinMap R X → FinMap R Y
-mapped change m = from_entries (map (λ e. (e.0, change e.0 e.1)) (entries m))
+-- the map with the value at a key changed, where it has one
+abbrev pub adjusted : {K X : Type 0} {R : K → K → Ordering} → FinMap R X → K → (X → X) → FinMap R X
+adjusted m k change = option_map_or (λ x. insert m k (change x)) (get m k) m

@@ -2,3 +2,4 @@ pub mod Determined
 pub mod Made
 pub mod Examples
 pub mod Quiet
+pub mod Kept

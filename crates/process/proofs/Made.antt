@@ -1,9 +1,10 @@
 -- What an answer makes, and where the steps of a turn lead.
-use Rattle.std.proofs.Common.{◌≡◌, ℕ, true, Option, Some, None, refl, sym, ap, ◌∙◌}
+use Rattle.std.proofs.Common.{◌≡◌, ℕ, true, Option, Some, None, sym, ap, ◌∙◌}
 use Rattle.std.proofs.lemmas.Bool.{eqb-true}
 use Rattle.std.specs.Option.{option_map}
 use Rattle.std.specs.FinMap.{get}
 use Rattle.guest_state.specs.GuestThread.{GuestThread}
+use Rattle.finite_maps.proofs.Options.{mapped_from}
 use Rattle.fork_exec.specs.Process.{Process}
 use Rattle.fork_exec.specs.Copies.{copy_of, fresh}
 use Rattle.instance.specs.Program.{Program}
@@ -13,11 +14,6 @@ use Rattle.process.specs.Lineage.{Told, makes, after_steps, thread_after}
 use Rattle.wx_types.specs.declared.entries.Outcome.{Outcome}
 use Rattle.wx_types.specs.declared.entries.Outcome.TheVariants.{Reply, Wait, Image, Fork, Spawn, Ended, Gone as GoneOutcome}
 use Rattle.wx_types.specs.declared.requests.Request.{Request}
-
--- what a value comes from that a map of an option gives
-pub mapped_from : {A B : Type 0} (f : A → B) (o : Option A) (y : B) → option_map f o ≡ Some y → (x : A) × (o ≡ Some x) × (f x ≡ y)
-mapped_from f None y e = cc
-mapped_from f (Some x) y e = (x, refl, cc)
 
 -- ---- what an answer makes
 

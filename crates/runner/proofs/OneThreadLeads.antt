@@ -1,6 +1,8 @@
 -- A turn of the one thread leads on.
 use Rattle.std.proofs.Common.{◌≡◌, ℕ, ◌≤◌, ◌-◌, ◌+◌, List, [], ◌∷◌, true, false, Bool, cond, eqb, Option, Some, None, min, option_map, refl, sym, ap, subst, ◌∙◌, arith}
-use Rattle.std.specs.FinMap.{get, insert, retain_keys}
+use Rattle.std.specs.Option.{option_map_or, option_and_then}
+use Rattle.std.specs.Ordering.{nat_cmp}
+use Rattle.std.specs.FinMap.{FinMap, get, insert, empty, retain_keys}
 use Rattle.std.proofs.lemmas.Cmp.{nat_cmp_total}
 use Rattle.fork_exec.specs.Process.{Process, fuel_left}
 use Rattle.guest_state.specs.GuestThread.{GuestThread, in_frame}
@@ -10,16 +12,21 @@ use Rattle.int_ops.specs.declared.trap.Cause.{Cause}
 use Rattle.interp.specs.declared.stop.Stop.{Stop}
 use Rattle.interp.specs.declared.stop.Stop.TheVariants as stop
 use Rattle.kernel_ask.specs.Answer.{plain}
-use Rattle.kernel_core.specs.Answers.{answer_call}
+use Rattle.kernel_core.specs.Answers.{answer, answer_call, answer_marked, question, mark_in}
+use Rattle.kernel_core.specs.Delivery.{with_delivery, delivered, deliverable_in}
 use Rattle.kernel_core.specs.End.{End, Exited, Killed}
 use Rattle.kernel_core.specs.Ending.{ending_of, is_open}
 use Rattle.kernel_core.specs.Ends.{answer_end}
 use Rattle.kernel_core.specs.Kernel.{Kernel, lives}
-use Rattle.kernel_core.specs.Rows.{replied as replies, risen, with_thread}
+use Rattle.kernel_core.specs.Rows.{Answered, Question, replied as replies, risen, with_thread}
+use Rattle.kernel_core.specs.Signals.{Dispositions, deliverable, first_dispositions}
 use Rattle.kernel_core.specs.Settling.{all_woken, settle}
-use Rattle.kernel_core.specs.Threads.{Fresh, Handed}
-use Rattle.kernel_core.proofs.Maps.{get-insert_same, thread_cmp_total}
-use Rattle.kernel_core.proofs.Ready.{settles_none, settles_on, stays_handed}
+use Rattle.kernel_core.specs.Threads.{Fresh, Handed, Ended as ThreadEnded}
+use Rattle.finite_maps.proofs.Lookups.{get-insert_same}
+use Rattle.kernel_core.proofs.Ended.{ended_ending}
+use Rattle.kernel_core.proofs.Quiet.{none_deliverable}
+use Rattle.kernel_core.proofs.Settled.{settles_none, settles_on, stays_handed}
+use Rattle.kernel_core.proofs.ThreadOrder.{thread_cmp_total}
 use Rattle.linear_memory.specs.LinearMemory.{LinearMemory}
 use Rattle.process.specs.Apply.{without_threads}
 use Rattle.process.specs.Asked.{Asked, AskedBy, EndsSlice, Sliced, with_steps}
@@ -31,7 +38,7 @@ use Rattle.wasm_steps.specs.Step.{step}
 use Rattle.wasm_steps.specs.Stepped.{Stepped, Next, Trapped, AtCall, AtWait, AtNotify, Finished, Stuck}
 use Rattle.world_step.specs.Leads.{Leads, TakesTurn, Turn, after_turn}
 use Rattle.world_step.specs.World.{World}
-use Rattle.world_step.proofs.Doomed.{get-retained}
+use Rattle.world_step.proofs.Standing.{get-retained}
 use Rattle.wx_types.specs.declared.entries.Entry.{Entry}
 use Rattle.wx_types.specs.declared.entries.Outcome.TheVariants.{Reply, Ended as EndedOutcome}
 use Rattle.wx_types.specs.declared.entries.Place.{Place}
@@ -92,6 +99,22 @@ module _ (world : World) (program : Program) (memory : LinearMemory) (thread : G
   abbrev handed_on : Kernel
   handed_on = with_thread (risen world.kernel) 1 1 (Handed Fresh)
 
+  -- what the thread asks; no signal can be delivered
+  abbrev pub asks_so : Question
+  asks_so = question (risen world.kernel) 1 1 request Fresh
+
+  none_to_deliver : deliverable_in (risen world.kernel) 1 ≡ None
+  none_to_deliver =
+      ap (λ (m : FinMap nat_cmp Dispositions). option_and_then deliverable (get m 1)) at.dispositions
+      ∙ ap (option_and_then deliverable) (get-insert_same nat_cmp_total empty 1 first_dispositions)
+      ∙ none_deliverable
+
+  answered_by : (given : Answered) → answer_call (risen world.kernel) asks_so ≡ Some given → with_delivery asks_so given ≡ given → answer world.kernel 1 1 request ≡ Some given
+  answered_by given row delivers =
+      ap (λ found. option_and_then (answer_marked (risen world.kernel) 1 1 request) (option_and_then mark_in found)) at.handed
+      ∙ ap (option_map (with_delivery asks_so)) row
+      ∙ ap Some delivers
+
   abbrev own : ℕ → List ℕ → Process
   own errno bytes = replied after_steps 1 next request errno bytes
 
@@ -104,7 +127,7 @@ module _ (world : World) (program : Program) (memory : LinearMemory) (thread : G
   settled : settle handed_on ≡ all_woken handed_on
   settled = settles_on handed_on 1 1 Fresh at.running handed_there
 
-  abbrev reply_turn : (errno : ℕ) (bytes : List ℕ) (place : Place) → answer_call (risen world.kernel) 1 1 request ≡ Some (replies (risen world.kernel) 1 1 errno bytes place) → TakesTurn world (reply_entry ran request.call (record { errno = errno; bytes = bytes; place = place }))
+  abbrev reply_turn : (errno : ℕ) (bytes : List ℕ) (place : Place) → answer_call (risen world.kernel) asks_so ≡ Some (replies (risen world.kernel) asks_so errno bytes place) → TakesTurn world (reply_entry ran request.call (record { errno = errno; bytes = bytes; place = place }))
   reply_turn errno bytes place answers = record {
     process = at.process;
     request = request;
@@ -114,7 +137,7 @@ module _ (world : World) (program : Program) (memory : LinearMemory) (thread : G
     handed = (Fresh, at.handed);
     there = at.there;
     asks = asked;
-    answers = answers;
+    answers = answered_by (replies (risen world.kernel) asks_so errno bytes place) answers (ap (λ o. option_map_or (delivered asks_so (replies (risen world.kernel) asks_so errno bytes place)) o (replies (risen world.kernel) asks_so errno bytes place)) none_to_deliver);
     call = refl;
     outcome = refl;
     signal = refl;
@@ -129,7 +152,7 @@ module _ (world : World) (program : Program) (memory : LinearMemory) (thread : G
       (option_map (λ t. replied after_steps 1 t request errno bytes) found))))
       (get-insert_same nat_cmp_total at.process.threads 1 next)
 
-  pub reply_leads : (errno : ℕ) (bytes : List ℕ) (place : Place) (memory'' : LinearMemory) (thread'' : GuestThread) → answer_call (risen world.kernel) 1 1 request ≡ Some (replies (risen world.kernel) 1 1 errno bytes place)
+  pub reply_leads : (errno : ℕ) (bytes : List ℕ) (place : Place) (memory'' : LinearMemory) (thread'' : GuestThread) → answer_call (risen world.kernel) asks_so ≡ Some (replies (risen world.kernel) asks_so errno bytes place)
       → Leaves (own errno bytes) program memory'' thread'' (left - ran)
       → LeadsOn world program memory'' thread'' slice (left - ran) (reply_entry ran request.call (record { errno = errno; bytes = bytes; place = place })) None
   reply_leads errno bytes place memory'' thread'' answers leaves = (
@@ -142,6 +165,7 @@ module _ (world : World) (program : Program) (memory : LinearMemory) (thread : G
       alive = ap (λ (k : Kernel). lives k 1) settled ∙ at.alive;
       descriptors = ap (λ (k : Kernel). k.descriptors) settled ∙ at.descriptors;
       descriptions = ap (λ (k : Kernel). k.descriptions) settled ∙ at.descriptions;
+      dispositions = ap (λ (k : Kernel). k.signals) settled ∙ at.dispositions;
       its_slice = at.its_slice;
       there =
           get-retained (insert world.processes 1 (own errno bytes)) (lives handed_on) 1
@@ -156,12 +180,15 @@ module _ (world : World) (program : Program) (memory : LinearMemory) (thread : G
 
   -- the end
   abbrev ended : End → Kernel
-  ended e = (answer_end (risen world.kernel) 1 1 e).kernel
+  ended e = (answer_end (risen world.kernel) asks_so e).kernel
+
+  ends : (e : End) → (ended e).ending ≡ ending_of e
+  ends e = ended_ending (with_thread (risen world.kernel) 1 1 ThreadEnded) 1 e
 
   abbrev after_end : End → World
   after_end e = record { kernel = settle (ended e); processes = retain_keys (insert world.processes 1 (without_threads after_steps)) (lives (ended e)); slice = world.slice }
 
-  abbrev end_turn : (e : End) → answer_call (risen world.kernel) 1 1 request ≡ Some (answer_end (risen world.kernel) 1 1 e) → TakesTurn world (end_entry ran request.call)
+  abbrev end_turn : (e : End) → answer_call (risen world.kernel) asks_so ≡ Some (answer_end (risen world.kernel) asks_so e) → TakesTurn world (end_entry ran request.call)
   end_turn e answers = record {
     process = at.process;
     request = request;
@@ -171,17 +198,17 @@ module _ (world : World) (program : Program) (memory : LinearMemory) (thread : G
     handed = (Fresh, at.handed);
     there = at.there;
     asks = asked;
-    answers = answers;
+    answers = answered_by (answer_end (risen world.kernel) asks_so e) answers refl;
     call = refl;
     outcome = refl;
     signal = refl;
   }
 
-  pub end_leads : (e : End) → answer_call (risen world.kernel) 1 1 request ≡ Some (answer_end (risen world.kernel) 1 1 e) → (last : World) × Leads world (end_entry ran request.call) last × (last.kernel.ending ≡ ending_of e)
+  pub end_leads : (e : End) → answer_call (risen world.kernel) asks_so ≡ Some (answer_end (risen world.kernel) asks_so e) → (last : World) × Leads world (end_entry ran request.call) last × (last.kernel.ending ≡ ending_of e)
   end_leads e answers = (
     after_end e,
     Turn at.running (end_turn e answers) refl,
-    ap (λ (k : Kernel). k.ending) (settles_none (ended e) (over e)),
+    ap (λ (k : Kernel). k.ending) (settles_none (ended e) (ap is_open (ends e) ∙ over e)) ∙ ends e,
   )
 
 -- ---- the requests, by how the thread stops
@@ -269,7 +296,7 @@ module _ (world : World) (program : Program) (memory : LinearMemory) (thread : G
       reply_leads world program memory thread slice left at most ran (stop.Call x) memory' next its_most ran_so request
       (asks_call program memory' next (left - ran) (step program.module memory' next) x 17 arguments stands known same)
       reply.errno reply.bytes reply.place (memory_after memory' arguments) (in_frame (answered 4 (Some reply.errno)) next)
-      (write_answer (risen world.kernel) at.descriptors at.descriptions request)
+      (ap Some (write_answer (risen world.kernel) at.descriptors at.descriptions (risen world.kernel).time Fresh request))
       (subst (λ (o : Process). Leaves o program (memory_after memory' arguments) (in_frame (answered 4 (Some reply.errno)) next) (left - ran)) (sym (same_either (eqb reply.errno 0) told)) (record {
         its_program = at.its_program;
         its_memory = refl;

@@ -6,7 +6,8 @@ use Rattle.guest_state.specs.GuestThread.{GuestThread}
 use Rattle.instance.specs.Program.{Program, after_start, first_memory, main_thread}
 use Rattle.kernel_core.specs.Kernel.{Live, Unjoined, lives_as}
 use Rattle.kernel_core.specs.Threads.{Fresh, Handed}
-use Rattle.kernel_core.proofs.Maps.{get-insert_same, thread_cmp_total}
+use Rattle.finite_maps.proofs.Lookups.{get-insert_same}
+use Rattle.kernel_core.proofs.ThreadOrder.{thread_cmp_total}
 use Rattle.linear_memory.specs.LinearMemory.{LinearMemory}
 use Rattle.wasm_ast.specs.declared.module.Module.{Module}
 use Rattle.world_step.specs.Boot.{Boot, boot_world, first_process}
@@ -35,6 +36,7 @@ boot_stands boot program slice fuel boots = record {
   alive = ap lives_as (get-insert_same nat_cmp_total empty 1 first_unjoined);
   descriptors = refl;
   descriptions = refl;
+  dispositions = refl;
   its_slice = boots.its_slice;
   there = get-insert_same nat_cmp_total empty 1 (first_process boot program);
   its_program = refl;

@@ -6,6 +6,7 @@ use Rattle.guest_state.specs.GuestThread.{GuestThread}
 use Rattle.instance.specs.Program.{Program}
 use Rattle.interp.specs.declared.stop.Stop.{Stop}
 use Rattle.interp.specs.declared.stop.Stop.TheVariants as stop
+use Rattle.kernel_core.specs.Signals.{first_dispositions}
 use Rattle.kernel_core.specs.Beginning.{first_descriptions, first_table}
 use Rattle.kernel_core.specs.Ending.{Open, Exited, Killed}
 use Rattle.kernel_core.specs.Kernel.{lives}
@@ -31,8 +32,8 @@ use Rattle.wx_types.specs.declared.entries.Place.{Place}
 use Rattle.wx_types.specs.declared.entries.Place.TheVariants.{Nowhere, Output as OutputPlace, Error as ErrorPlace}
 use Rattle.wx_types.specs.declared.errors.Errno.TheVariants.{Badf, Isdir, Notcapable}
 
--- The run is open, thread 1 of process 1 is handed out, and stands so in its program over this memory; the descriptors are the
--- first ones. These are the steps of a slice, and the fuel that is left.
+-- The run is open, thread 1 of process 1 is handed out, and stands so in its program over this memory; the descriptors and the
+-- dispositions of signals are the first ones. These are the steps of a slice, and the fuel that is left.
 pub record StandsAt (world : World) (program : Program) (memory : LinearMemory) (thread : GuestThread) (slice left : ℕ) : Type 0 where
   pub process : Process
   pub running : world.kernel.ending ≡ Open
@@ -40,6 +41,7 @@ pub record StandsAt (world : World) (program : Program) (memory : LinearMemory) 
   pub alive : lives world.kernel 1 ≡ true
   pub descriptors : world.kernel.descriptors ≡ insert empty 1 first_table
   pub descriptions : world.kernel.descriptions ≡ first_descriptions
+  pub dispositions : world.kernel.signals ≡ insert empty 1 first_dispositions
   pub its_slice : world.slice ≡ slice
   pub there : get world.processes 1 ≡ Some process
   pub its_program : process.program ≡ program

@@ -1,109 +1,254 @@
--- What the kernel's answers are, whatever the call.
-use Rattle.std.proofs.Common.{◌≡◌, ℕ, true, false, Bool, List, [], Option, Some, None, refl, subst}
-use Rattle.std.specs.Prelude.{◌==◌, if◌then◌else◌, slice_index, Result, Ok, Err}
-use Rattle.wx_types.specs.declared.entries.Outcome.TheVariants.{Ended as EndedOutcome}
+-- What the kernel's answers are to threads and processes, whatever the call.
+use Rattle.std.proofs.Common.{◌≡◌, ℕ, Bool, true, false, List, [], Option, Some, None, Result, Ok, Err, refl, sym, ap, subst, ◌∙◌}
+use Rattle.std.specs.Prelude.{◌==◌, ◌+◌, nat_le, if◌then◌else◌, slice_index, length}
+use Rattle.std.specs.Option.{option_map_or}
+use Rattle.std.proofs.lemmas.Bool.{eqb-true}
+use Rattle.std.specs.FinMap.{get, insert}
 use Rattle.wx_types.specs.Errno.{errno_number}
-use Rattle.wx_types.specs.declared.errors.Errno.TheVariants.{Nosys}
+use Rattle.wx_types.specs.declared.errors.Errno.{Errno}
+use Rattle.wx_types.specs.declared.errors.Errno.TheVariants.{Intr, Nosys, Again, Pipe}
 use Rattle.wx_types.specs.declared.entries.Place.{Place}
-use Rattle.wx_types.specs.declared.entries.Place.TheVariants.{Nowhere, Output as OutputPlace, Error as ErrorPlace}
-use Rattle.instance.specs.Calls.{no_call, spent, out_of_fuel, trapped, last_return, nosys_call}
-use Rattle.wasix_abi.specs.Requests.{fd_write, proc_exit}
+use Rattle.wx_types.specs.declared.entries.Place.TheVariants.{Nowhere}
+use Rattle.wx_types.specs.declared.entries.Outcome.{Outcome}
+use Rattle.wx_types.specs.declared.entries.Outcome.TheVariants.{Reply, Wait, Ended as EndedOutcome, Gone as GoneOutcome}
 use Rattle.wx_types.specs.declared.requests.Request.{Request}
-use Rattle.open_desc.specs.declared.description.Description.{Description}
+use Rattle.file_tree.specs.FileTree.{FileTree}
+use Rattle.file_tree.specs.Files.{write_at}
+use Rattle.finite_maps.proofs.Lookups.{insert-insert}
+use Rattle.finite_maps.proofs.Options.{mapped_from, chained_from}
+use Rattle.instance.specs.Calls.{no_call, spent, out_of_fuel, trapped, last_return, nosys_call}
+use Rattle.open_desc.specs.Writing.{start_of}
 use Rattle.open_desc.specs.declared.description.Kind.{Kind}
 use Rattle.open_desc.specs.declared.description.Kind.TheVariants.{Input, Output, Error, File, Dir, PipeRead, PipeWrite}
-use Rattle.open_desc.specs.Reading.{usable}
+use Rattle.open_desc.specs.declared.description.Description.{Description}
+use Rattle.wasix_abi.specs.Requests.{fd_write, proc_exit}
 use Rattle.kernel_ask.specs.Answer.{plain}
-use Rattle.kernel_core.specs.Answers.{answer_call, answer}
-use Rattle.kernel_core.specs.Descriptors.{opened, written, answer_fd_write}
-use Rattle.kernel_core.specs.End.{End, Exited, Killed, abrt, xcpu}
-use Rattle.kernel_core.specs.Ends.{answer_end, answer_gone, answer_return, answer_thread_end, has_live_thread}
+use Rattle.process.specs.Replied.{thread_spawn}
+use Rattle.kernel_core.specs.Answers.{answer, answer_call, row_of, answer_marked, question, mark_of, fd_read}
+use Rattle.kernel_core.specs.Deadlines.{thread_sleep, later}
+use Rattle.kernel_core.specs.Delivery.{with_delivery, with_delivery_as, with_signal_of, delivered, interrupted, is_interrupted, deliverable_in}
+use Rattle.kernel_core.specs.Descriptors.{Opened, answer_fd_read, answer_fd_write, read_opened, write_opened, transferred, is_nonblocking, opened, with_right, no_room_needed, most_asked}
+use Rattle.kernel_core.specs.End.{End, Exited, Killed}
+use Rattle.kernel_core.specs.Ends.{answer_end, answer_return, answer_thread_end, has_live_thread, end_process}
 use Rattle.kernel_core.specs.Kernel.{Kernel}
-use Rattle.kernel_core.specs.Rows.{Answered, risen, replied, refused, with_thread, in_order, unless_refused}
-use Rattle.kernel_core.specs.Threads.{Ended}
-use Rattle.world_step.specs.Pipes.{through}
+use Rattle.kernel_core.specs.Raising.{answer_raised_as, raised_in, with_pending, with_dispositions}
+use Rattle.kernel_core.specs.Rows.{Question, Answered, risen, replied, refused, waits, with_thread, in_order, unless_refused}
+use Rattle.kernel_core.specs.Signals.{Dispositions, Raised, Dropped, Pending, Fatal, broken_pipe, abrt, xcpu, with_signal}
+use Rattle.kernel_core.specs.Sleeping.{answer_thread_sleep}
+use Rattle.kernel_core.specs.Threads.{ThreadState, Mark, Handed, Waiting, Ended, Fresh}
+use Rattle.kernel_core.specs.Transfers.{Transfer, Moves, Blocks, Breaks, Refuses, read_transfer, write_transfer, after_read, after_write, file_written, moved_to, place_of}
+use Rattle.kernel_core.proofs.ThreadOrder.{thread_cmp_total, thread_cmp_exact}
 
--- a place that is no pipe
-abbrev pub IsElsewhere : Place → Type 0
-IsElsewhere place = (pipe : ℕ) (bytes : List ℕ) → through pipe place bytes ≡ []
+-- the caller's thread stands so, and nothing else is changed of threads and processes
+pub record Sets (kernel : Kernel) (pid tid : ℕ) (state : ThreadState) (kernel' : Kernel) : Type 0 where
+  pub threads : kernel'.threads ≡ insert kernel.threads (pid, tid) state
+  pub unjoined : kernel'.unjoined ≡ kernel.unjoined
 
--- a reply, which moves nothing through a pipe yet; the end of the process; the end of the thread; or none for a thread that isn't there
-pub data Shape (kernel : Kernel) (pid tid : ℕ) (given : Answered) : Type 0 where
-  Replies : (errno : ℕ) (bytes : List ℕ) (place : Place) → IsElsewhere place → given ≡ replied kernel pid tid errno bytes place → Shape kernel pid tid given
-  Ends : (end : End) → given ≡ answer_end kernel pid tid end → Shape kernel pid tid given
-  EndsThread : given ≡ record { answer = plain (EndedOutcome false); kernel = with_thread kernel pid tid Ended } → Shape kernel pid tid given
-  Goes : given ≡ answer_gone kernel pid tid → Shape kernel pid tid given
+-- A reply; a wait; the end of the process; the end of the thread; or none, for a thread that isn't there.
+pub data Shape (kernel : Kernel) (pid tid call : ℕ) (given : Answered) : Type 0 where
+  Replies : (errno : ℕ) (bytes : List ℕ) (place : Place) → given.answer.outcome ≡ Reply errno bytes place → Sets kernel pid tid (Handed Fresh) given.kernel → Shape kernel pid tid call given
+  Waits : (request : Request) (since : ℕ) → given.answer.outcome ≡ Wait → Sets kernel pid tid (Waiting request since) given.kernel → Shape kernel pid tid call given
+  Ends : (end : End) → given ≡ record { answer = plain (EndedOutcome true); kernel = end_process (with_thread kernel pid tid Ended) pid end } → Shape kernel pid tid call given
+  EndsThread : given.answer.outcome ≡ EndedOutcome false → Sets kernel pid tid Ended given.kernel → Shape kernel pid tid call given
+  Goes : (call == no_call) ≡ true → given.answer.outcome ≡ GoneOutcome → Sets kernel pid tid Ended given.kernel → Shape kernel pid tid call given
 
--- each answer that is given has a shape
-record Shaped (kernel : Kernel) (pid tid : ℕ) (answered : Option Answered) : Type 0 where
-  shape : (given : Answered) → answered ≡ Some given → Shape kernel pid tid given
+-- ---- what leaves threads and processes as they are
 
-moved : (kernel : Kernel) (pid tid : ℕ) (x given : Answered) → Some x ≡ Some given → Shape kernel pid tid x → Shape kernel pid tid given
-moved kernel pid tid x given is shape = let h : x ≡ given = cc in subst (Shape kernel pid tid) h shape
+pub record SameTasks (kernel kernel' : Kernel) : Type 0 where
+  pub threads : kernel'.threads ≡ kernel.threads
+  pub unjoined : kernel'.unjoined ≡ kernel.unjoined
 
-shaped_here : (kernel : Kernel) (pid tid : ℕ) (x : Answered) → Shape kernel pid tid x → Shaped kernel pid tid (Some x)
-shaped_here kernel pid tid x shape = record { shape = λ given is. moved kernel pid tid x given is shape }
+same : (kernel : Kernel) → SameTasks kernel kernel
+same kernel = record { threads = refl; unjoined = refl }
 
-shaped_none : (kernel : Kernel) (pid tid : ℕ) → Shaped kernel pid tid None
-shaped_none kernel pid tid = record { shape = λ given is. cc }
+same_read : (kernel : Kernel) (number offset : ℕ) (kind : Kind) (bytes : List ℕ) → SameTasks kernel (after_read kernel number offset kind bytes)
+same_read kernel number offset Input bytes = record { threads = refl; unjoined = refl }
+same_read kernel number offset Output bytes = same kernel
+same_read kernel number offset Error bytes = same kernel
+same_read kernel number offset (File node) bytes = record { threads = refl; unjoined = refl }
+same_read kernel number offset (Dir node) bytes = same kernel
+same_read kernel number offset (PipeRead pipe) bytes = record { threads = refl; unjoined = refl }
+same_read kernel number offset (PipeWrite pipe) bytes = same kernel
 
-shaped_if : (kernel : Kernel) (pid tid : ℕ) (b : Bool) {x y : Option Answered} → Shaped kernel pid tid x → Shaped kernel pid tid y → Shaped kernel pid tid (if b then x else y)
-shaped_if kernel pid tid true p q = p
-shaped_if kernel pid tid false p q = q
+same_file : (kernel : Kernel) (number start : ℕ) (bytes : List ℕ) (result : Result FileTree Errno) → SameTasks kernel (file_written kernel number start bytes result)
+same_file kernel number start bytes (Ok tree) =
+    elim (length bytes == 0) as (λ b. SameTasks kernel (if b then kernel else moved_to (record kernel { tree = tree }) number (start + length bytes))) [
+      | true ↦ same kernel
+      | false ↦ record { threads = refl; unjoined = refl }
+    ]
+same_file kernel number start bytes (Err error) = same kernel
 
-shaped_reply : (kernel : Kernel) (pid tid errno : ℕ) (bytes : List ℕ) (place : Place) → IsElsewhere place → Shaped kernel pid tid (Some (replied kernel pid tid errno bytes place))
-shaped_reply kernel pid tid errno bytes place elsewhere = shaped_here kernel pid tid (replied kernel pid tid errno bytes place) (Replies errno bytes place elsewhere refl)
+same_write : (kernel : Kernel) (number : ℕ) (d : Description) (kind : Kind) (bytes : List ℕ) → SameTasks kernel (after_write kernel number d kind bytes)
+same_write kernel number d Input bytes = same kernel
+same_write kernel number d Output bytes = same kernel
+same_write kernel number d Error bytes = same kernel
+same_write kernel number d (File node) bytes = same_file kernel number (start_of kernel.tree node d) bytes (write_at kernel.tree node (start_of kernel.tree node d) bytes)
+same_write kernel number d (Dir node) bytes = same kernel
+same_write kernel number d (PipeRead pipe) bytes = same kernel
+same_write kernel number d (PipeWrite pipe) bytes = record { threads = refl; unjoined = refl }
 
-shaped_end : (kernel : Kernel) (pid tid : ℕ) (end : End) → Shaped kernel pid tid (Some (answer_end kernel pid tid end))
-shaped_end kernel pid tid end = shaped_here kernel pid tid (answer_end kernel pid tid end) (Ends end refl)
-
-thread_end_shape : (kernel : Kernel) (pid tid code : ℕ) → Shape kernel pid tid (answer_thread_end kernel pid tid code)
-thread_end_shape kernel pid tid code =
-    elim (has_live_thread (with_thread kernel pid tid Ended) pid) as (λ b. Shape kernel pid tid (if b then record { answer = plain (EndedOutcome false); kernel = with_thread kernel pid tid Ended } else answer_end kernel pid tid (Exited code))) [
-      | true ↦ EndsThread refl
-      | false ↦ Ends (Exited code) refl
+same_pending : (kernel : Kernel) (pid signal : ℕ) → SameTasks kernel (with_pending kernel pid signal)
+same_pending kernel pid signal =
+    elim (get kernel.signals pid) as (λ found. SameTasks kernel (option_map_or (λ (d : Dispositions). with_dispositions kernel pid (record d { pending = with_signal d.pending signal })) found kernel)) [
+      | None ↦ same kernel
+      | Some d ↦ record { threads = refl; unjoined = refl }
     ]
 
-return_shape : (kernel : Kernel) (pid tid : ℕ) (request : Request) → Shape kernel pid tid (answer_return kernel pid tid request)
-return_shape kernel pid tid request =
-    elim (slice_index request.words 0 == 1) as (λ b. Shape kernel pid tid (if b then answer_end kernel pid tid (Exited 0) else answer_thread_end kernel pid tid 0)) [
-      | true ↦ Ends (Exited 0) refl
-      | false ↦ thread_end_shape kernel pid tid 0
-    ]
+-- ---- rows
 
--- ---- rows with refusals
+shape_if : (kernel : Kernel) (pid tid call : ℕ) (b : Bool) {x y : Answered} → Shape kernel pid tid call x → Shape kernel pid tid call y → Shape kernel pid tid call (if b then x else y)
+shape_if kernel pid tid call true p q = p
+shape_if kernel pid tid call false p q = q
 
-shaped_row : {Z : Type 0} (kernel : Kernel) (pid tid : ℕ) (judged : Result Z ℕ) (does : Z → Option Answered) → ((z : Z) → Shaped kernel pid tid (does z)) → Shaped kernel pid tid (unless_refused kernel pid tid judged does)
-shaped_row kernel pid tid (Ok z) does shaped = shaped z
-shaped_row kernel pid tid (Err errno) does shaped = shaped_here kernel pid tid (refused kernel pid tid errno) (Replies errno [] Nowhere (λ pipe bytes. refl) refl)
+module _ (kernel : Kernel) (asked : Question) where
+  abbrev Fits : Answered → Type 0
+  Fits given = Shape kernel asked.pid asked.tid asked.request.call given
 
-shaped_write : (kernel : Kernel) (pid tid : ℕ) (request : Request) (kind : Kind) → Shaped kernel pid tid (written kernel pid tid request kind)
-shaped_write kernel pid tid request Input = shaped_none kernel pid tid
-shaped_write kernel pid tid request Output = shaped_reply kernel pid tid 0 request.one OutputPlace (λ pipe bytes. refl)
-shaped_write kernel pid tid request Error = shaped_reply kernel pid tid 0 request.one ErrorPlace (λ pipe bytes. refl)
-shaped_write kernel pid tid request (File node) = shaped_none kernel pid tid
-shaped_write kernel pid tid request (Dir node) = shaped_none kernel pid tid
-shaped_write kernel pid tid request (PipeRead pipe) = shaped_none kernel pid tid
-shaped_write kernel pid tid request (PipeWrite pipe) = shaped_none kernel pid tid
+  reply_shape : (k : Kernel) (errno : ℕ) (bytes : List ℕ) (place : Place) → SameTasks kernel k → Fits (replied k asked errno bytes place)
+  reply_shape k errno bytes place s =
+      Replies errno bytes place refl (record { threads = ap (λ t. insert t (asked.pid, asked.tid) (Handed Fresh)) s.threads; unjoined = s.unjoined })
 
-shaped_fd_write : (kernel : Kernel) (pid tid : ℕ) (request : Request) → Shaped kernel pid tid (answer_fd_write kernel pid tid request)
-shaped_fd_write kernel pid tid request =
-    shaped_row kernel pid tid
-    (in_order request (opened kernel pid (slice_index request.words 0)) (λ d. usable 64 (Some d)) (λ (d : Description). Ok d))
-    (λ d. written kernel pid tid request d.kind)
-    (λ d. shaped_write kernel pid tid request d.kind)
+  refused_shape : (errno : ℕ) → Fits (refused kernel asked errno)
+  refused_shape errno = reply_shape kernel errno [] Nowhere (same kernel)
 
-shaped_call : (kernel : Kernel) (pid tid : ℕ) (request : Request) → Shaped kernel pid tid (answer_call kernel pid tid request)
-shaped_call kernel pid tid request =
-    shaped_if kernel pid tid (request.call == no_call) (shaped_here kernel pid tid (answer_gone kernel pid tid) (Goes refl))
-    (shaped_if kernel pid tid (request.call == spent) (shaped_reply kernel pid tid 0 [] Nowhere (λ pipe bytes. refl))
-    (shaped_if kernel pid tid (request.call == out_of_fuel) (shaped_end kernel pid tid (Killed xcpu))
-    (shaped_if kernel pid tid (request.call == trapped) (shaped_end kernel pid tid (Killed abrt))
-    (shaped_if kernel pid tid (request.call == last_return) (shaped_here kernel pid tid (answer_return kernel pid tid request) (return_shape kernel pid tid request))
-    (shaped_if kernel pid tid (request.call == nosys_call) (shaped_reply kernel pid tid (errno_number Nosys) [] Nowhere (λ pipe bytes. refl))
-    (shaped_if kernel pid tid (request.call == fd_write) (shaped_fd_write kernel pid tid request)
-    (shaped_if kernel pid tid (request.call == proc_exit) (shaped_end kernel pid tid (Exited (slice_index request.words 0)))
-    (shaped_none kernel pid tid))))))))
+  wait_shape : Fits (waits kernel asked)
+  wait_shape = Waits asked.request asked.since refl (record { threads = refl; unjoined = refl })
 
-pub answer_shape : (kernel : Kernel) (pid tid : ℕ) (request : Request) (given : Answered) → answer kernel pid tid request ≡ Some given → Shape (risen kernel) pid tid given
-answer_shape kernel pid tid request given is = (shaped_call (risen kernel) pid tid request).shape given is
+  end_shape : (end : End) → Fits (answer_end kernel asked end)
+  end_shape end = Ends end refl
+
+  thread_end_shape : (code : ℕ) → Fits (answer_thread_end kernel asked code)
+  thread_end_shape code =
+      shape_if kernel asked.pid asked.tid asked.request.call (has_live_thread (with_thread kernel asked.pid asked.tid Ended) asked.pid)
+      (EndsThread refl (record { threads = refl; unjoined = refl }))
+      (end_shape (Exited code))
+
+  return_shape : Fits (answer_return kernel asked)
+  return_shape = shape_if kernel asked.pid asked.tid asked.request.call (slice_index asked.request.words 0 == 1) (end_shape (Exited 0)) (thread_end_shape 0)
+
+  raised_shape : (signal errno : ℕ) (r : Raised) → Fits (answer_raised_as kernel asked signal errno r)
+  raised_shape signal errno Dropped = refused_shape errno
+  raised_shape signal errno Pending = reply_shape (with_pending kernel asked.pid signal) errno [] Nowhere (same_pending kernel asked.pid signal)
+  raised_shape signal errno Fatal = end_shape (Killed signal)
+
+  transfer_shape : (d : Description) (after : List ℕ → Kernel) (t : Transfer) → ((bytes : List ℕ) → SameTasks kernel (after bytes)) → Fits (transferred kernel asked d after t)
+  transfer_shape d after (Moves bytes) s = reply_shape (after bytes) 0 bytes (place_of d.kind) (s bytes)
+  transfer_shape d after Blocks s = shape_if kernel asked.pid asked.tid asked.request.call (is_nonblocking d) (refused_shape (errno_number Again)) wait_shape
+  transfer_shape d after Breaks s = raised_shape broken_pipe (errno_number Pipe) (raised_in kernel asked.pid broken_pipe)
+  transfer_shape d after (Refuses error) s = refused_shape (errno_number error)
+
+  row_shape : {Z : Type 0} (judged : Result Z ℕ) (does : Z → Answered) → ((z : Z) → Fits (does z)) → Fits (unless_refused kernel asked judged does)
+  row_shape (Ok z) does fits = fits z
+  row_shape (Err errno) does fits = refused_shape errno
+
+  read_shape : Fits (answer_fd_read kernel asked)
+  read_shape =
+      row_shape (in_order asked.request (opened kernel asked.pid (slice_index asked.request.words 0)) (with_right 2) no_room_needed) (read_opened kernel asked)
+      (λ (o : Opened). transfer_shape o.description (after_read kernel o.number o.description.offset o.description.kind) (read_transfer kernel o.description (most_asked asked.request))
+      (same_read kernel o.number o.description.offset o.description.kind))
+
+  write_shape : Fits (answer_fd_write kernel asked)
+  write_shape =
+      row_shape (in_order asked.request (opened kernel asked.pid (slice_index asked.request.words 0)) (with_right 64) no_room_needed) (write_opened kernel asked)
+      (λ (o : Opened). transfer_shape o.description (after_write kernel o.number o.description o.description.kind) (write_transfer kernel o.description asked.request.one)
+      (same_write kernel o.number o.description o.description.kind))
+
+  sleep_shape : Fits (answer_thread_sleep kernel asked)
+  sleep_shape =
+      shape_if kernel asked.pid asked.tid asked.request.call (nat_le (later asked.since (slice_index asked.request.words 0)) kernel.time) (reply_shape kernel 0 [] Nowhere (same kernel)) wait_shape
+
+  -- each answer that is given has a shape
+  record Shaped (answered : Option Answered) : Type 0 where
+    shape : (given : Answered) → answered ≡ Some given → Fits given
+
+  here : (x : Answered) → Fits x → Shaped (Some x)
+  here x fits = record { shape = λ given is. (let h : x ≡ given = cc in subst Fits h fits) }
+
+  known_shaped : (b : Bool) {x y : Option Answered} → (b ≡ true → Shaped x) → Shaped y → Shaped (if b then x else y)
+  known_shaped true p q = p refl
+  known_shaped false p q = q
+
+  shaped_if : (b : Bool) {x y : Option Answered} → Shaped x → Shaped y → Shaped (if b then x else y)
+  shaped_if true p q = p
+  shaped_if false p q = q
+
+  call_shaped : Shaped (answer_call kernel asked)
+  call_shaped =
+      known_shaped (asked.request.call == no_call) (λ none. here _ (Goes none refl (record { threads = refl; unjoined = refl })))
+      (shaped_if (asked.request.call == spent) (here _ (reply_shape kernel 0 [] Nowhere (same kernel)))
+      (shaped_if (asked.request.call == out_of_fuel) (here _ (end_shape (Killed xcpu)))
+      (shaped_if (asked.request.call == trapped) (here _ (end_shape (Killed abrt)))
+      (shaped_if (asked.request.call == last_return) (here _ return_shape)
+      (shaped_if (asked.request.call == nosys_call) (here _ (refused_shape (errno_number Nosys)))
+      (shaped_if (asked.request.call == fd_read) (here _ read_shape)
+      (shaped_if (asked.request.call == fd_write) (here _ write_shape)
+      (shaped_if (asked.request.call == proc_exit) (here _ (end_shape (Exited (slice_index asked.request.words 0))))
+      (shaped_if (asked.request.call == thread_sleep) (here _ sleep_shape)
+      (record { shape = λ given is. cc }))))))))))
+
+  -- ---- the delivery of a signal
+
+  delivered_sets : (state : ThreadState) (given : Answered) (o : Option ℕ) → Sets kernel asked.pid asked.tid state given.kernel → Sets kernel asked.pid asked.tid state (option_map_or (delivered asked given) o given).kernel
+  delivered_sets state given None s = s
+  delivered_sets state given (Some signal) s = record { threads = s.threads; unjoined = s.unjoined }
+
+  delivered_outcome : (given : Answered) (o : Option ℕ) → (option_map_or (delivered asked given) o given).answer.outcome ≡ given.answer.outcome
+  delivered_outcome given None = refl
+  delivered_outcome given (Some signal) = refl
+
+  signal_shape : (given : Answered) (errno : ℕ) (bytes : List ℕ) (place : Place) → given.answer.outcome ≡ Reply errno bytes place → Sets kernel asked.pid asked.tid (Handed Fresh) given.kernel → Fits (with_signal_of asked given)
+  signal_shape given errno bytes place is s =
+      Replies errno bytes place (delivered_outcome given (deliverable_in given.kernel asked.pid) ∙ is) (delivered_sets (Handed Fresh) given (deliverable_in given.kernel asked.pid) s)
+
+  -- the thread that would have waited is handed out
+  handed_again : (request : Request) (since : ℕ) (k : Kernel) → Sets kernel asked.pid asked.tid (Waiting request since) k → Sets kernel asked.pid asked.tid (Handed Fresh) (refused k asked (errno_number Intr)).kernel
+  handed_again request since k s = record {
+    threads = ap (λ t. insert t (asked.pid, asked.tid) (Handed Fresh)) s.threads ∙ insert-insert thread_cmp_total thread_cmp_exact kernel.threads (asked.pid, asked.tid) (Waiting request since) (Handed Fresh);
+    unjoined = s.unjoined;
+  }
+
+  interrupted_shape : (given : Answered) (request : Request) (since : ℕ) → given.answer.outcome ≡ Wait → Sets kernel asked.pid asked.tid (Waiting request since) given.kernel → Fits (interrupted asked given)
+  interrupted_shape given request since is s =
+      shape_if kernel asked.pid asked.tid asked.request.call (is_interrupted given.kernel asked)
+      (signal_shape (refused given.kernel asked (errno_number Intr)) (errno_number Intr) [] Nowhere refl (handed_again request since given.kernel s))
+      (Waits request since is s)
+
+  abbrev as_outcome : (given : Answered) (outcome : Outcome) → given.answer.outcome ≡ outcome → Fits (with_delivery_as asked given outcome) → Fits (with_delivery asked given)
+  as_outcome given outcome is fits = subst (λ o. Fits (with_delivery_as asked given o)) (sym is) fits
+
+  with_delivery_shape : (given : Answered) → Fits given → Fits (with_delivery asked given)
+  with_delivery_shape given (Replies errno bytes place is s) = as_outcome given (Reply errno bytes place) is (signal_shape given errno bytes place is s)
+  with_delivery_shape given (Waits request since is s) = as_outcome given Wait is (interrupted_shape given request since is s)
+  with_delivery_shape given (Ends end is) = as_outcome given (EndedOutcome true) (ap (λ (x : Answered). x.answer.outcome) is) (Ends end is)
+  with_delivery_shape given (EndsThread is s) = as_outcome given (EndedOutcome false) is (EndsThread is s)
+  with_delivery_shape given (Goes none is s) = as_outcome given GoneOutcome is (Goes none is s)
+
+-- what an answer comes from: why the thread is handed out, and the row's answer
+pub record FromRow (kernel : Kernel) (pid tid : ℕ) (request : Request) (given : Answered) : Type 0 where
+  pub mark : Mark
+  pub by_row : Answered
+  pub answers : answer_call (risen kernel) (question (risen kernel) pid tid request mark) ≡ Some by_row
+  pub delivers : with_delivery (question (risen kernel) pid tid request mark) by_row ≡ given
+
+pub from_row : (kernel : Kernel) (pid tid : ℕ) (request : Request) (given : Answered) → answer kernel pid tid request ≡ Some given → FromRow kernel pid tid request given
+from_row kernel pid tid request given is =
+    let marked = chained_from (answer_marked (risen kernel) pid tid request) (mark_of kernel pid tid) given is in
+    let asked : Question = question (risen kernel) pid tid request marked.0 in
+    let rowed = mapped_from (with_delivery asked) (answer_call (risen kernel) asked) given marked.2 in
+    record { mark = marked.0; by_row = rowed.0; answers = rowed.1; delivers = rowed.2 }
+
+pub answer_shape : (kernel : Kernel) (pid tid : ℕ) (request : Request) (given : Answered) → answer kernel pid tid request ≡ Some given → Shape (risen kernel) pid tid request.call given
+answer_shape kernel pid tid request given is =
+    let from = from_row kernel pid tid request given is in
+    let asked : Question = question (risen kernel) pid tid request from.mark in
+    subst (Shape (risen kernel) pid tid request.call) from.delivers (with_delivery_shape (risen kernel) asked from.by_row ((call_shaped (risen kernel) asked).shape from.by_row from.answers))
+
+-- no call that is answered begins a thread yet
+pub rows_begin_none : (kernel : Kernel) (pid tid : ℕ) (request : Request) (given : Answered) → answer kernel pid tid request ≡ Some given → (request.call == thread_spawn) ≡ false
+rows_begin_none kernel pid tid request given is =
+    let from = from_row kernel pid tid request given is in
+    let asked : Question = question (risen kernel) pid tid request from.mark in
+    elim (request.call == thread_spawn) as (λ b. (request.call == thread_spawn) ≡ b → b ≡ false) [
+      | true ↦ λ spawns. absurd (let h : None ≡ Some from.by_row = sym (ap (row_of (risen kernel) asked) (eqb-true request.call thread_spawn spawns)) ∙ from.answers in cc)
+      | false ↦ λ apart. refl
+    ] refl

@@ -1,33 +1,35 @@
 -- How the line of a process crosses an entry.
-use Rattle.std.proofs.Common.{◌≡◌, ℕ, true, false, Bool, [], Option, Some, None, cond, refl, sym, ap, ◌∙◌}
-use Rattle.std.specs.Prelude.{if◌then◌else◌, ◌==◌, ◌||◌}
+use Rattle.std.proofs.Common.{◌≡◌, ℕ, true, false, Bool, [], Option, Some, None, cond, refl, sym, ap, subst, ◌∙◌}
+use Rattle.std.specs.Prelude.{if◌then◌else◌, ◌==◌, ◌||◌, is_some}
 use Rattle.std.specs.Option.{option_and_then, option_map}
 use Rattle.std.specs.FinMap.{get, insert, nat_cmp-IsAntisymmetric}
 use Rattle.std.proofs.lemmas.Bool.{eqb-false, eqb-true, or_right}
 use Rattle.std.proofs.lemmas.Cmp.{nat_cmp_total}
 use Rattle.fork_exec.specs.Process.{Process}
 use Rattle.kernel_ask.specs.Answer.{Answer}
-use Rattle.kernel_core.specs.Kernel.{Kernel, lives}
+use Rattle.kernel_core.specs.Kernel.{Kernel, lives, IsDoomed}
 use Rattle.kernel_core.specs.Rows.{Answered, risen}
-use Rattle.kernel_core.proofs.Maps.{get-insert_same, get-insert_other}
+use Rattle.finite_maps.proofs.Lookups.{get-insert_same, get-insert_other}
 use Rattle.fork_exec.specs.Copies.{fresh}
 use Rattle.instance.specs.Program.{Program}
 use Rattle.wx_types.specs.declared.entries.Outcome.{Outcome}
 use Rattle.wx_types.specs.declared.entries.Outcome.TheVariants.{Reply, Wait, Image, Fork, Spawn, Ended, Gone as GoneOutcome}
 use Rattle.wx_types.specs.declared.requests.Request.{Request}
-use Rattle.process.specs.Apply.{made_by, new_arguments, apply, after_outcome, made}
-use Rattle.process.specs.Lineage.{Told, makes, is_on_line, after_told, after_answer, answer_of, made_process}
+use Rattle.process.specs.Apply.{made_by, new_arguments, apply, after_outcome, made, without_threads}
+use Rattle.process.specs.Lineage.{Told, makes, is_on_line, after_told, after_answer, answer_of, made_process, thread_after}
 use Rattle.process.specs.Processes.{Processes, with_made}
 use Rattle.process.specs.Replied.{signalled}
-use Rattle.process.proofs.Made.{mapped_from, makes_made, asked_steps}
+use Rattle.finite_maps.proofs.Options.{mapped_from, not_some}
+use Rattle.process.proofs.Made.{makes_made, asked_steps}
 use Rattle.wasix_abi.specs.Requests.{plain_request}
 use Rattle.instance.specs.Calls.{no_call}
 use Rattle.wx_types.specs.declared.entries.Entry.{Entry}
 use Rattle.world_step.specs.Leads.{Leads, TakesTurn, IsGone, Turn, Gone, told_by}
 use Rattle.world_step.specs.Stops.{IsStop, TellsGone}
 use Rattle.world_step.specs.World.{World}
-use Rattle.world_step.proofs.Answering.{Shape, Replies, Ends, EndsThread, Goes, answer_shape}
-use Rattle.world_step.proofs.Doomed.{DoomedAreDead, Turned, turned, get-retained}
+use Rattle.world_step.proofs.Answering.{Shape, Replies, Waits, Ends, EndsThread, Goes, answer_shape}
+use Rattle.world_step.proofs.Settling.{is_live_at}
+use Rattle.world_step.proofs.Standing.{Stands, Turned, turned, get-retained, here}
 use Rattle.world_step.proofs.Lines.{before_turn}
 
 -- ---- an answer that makes no process of that number leaves what is there
@@ -48,11 +50,13 @@ makes_other m stopped tid request program GoneOutcome q e = refl
 
 -- ---- the crossing
 
--- On the line, from a process that is there, the turn is its stop, and leads to what stands on the line afterwards, if anything
--- does; or its process has ended, and the turn is that of a thread which another one ended. Or the line passes the turn by.
+-- On the line, from a process that is there, the turn is its stop, or that of a thread which was ended, and leads to what stands on
+-- the line afterwards, if anything does; or its process has ended, and the turn is that of a thread which was ended. Or the line
+-- passes the turn by.
 pub data Crossing (world next : World) (turn : Told) (q : ℕ) : Type 0 where
   Alive : (start : Process) → get world.processes (before_turn turn q) ≡ Some start → is_on_line turn q ≡ true → IsStop world.slice start turn → ((last : Process) → get next.processes q ≡ Some last → after_told start turn q ≡ Some last) → Crossing world next turn q
-  Dead : get world.processes (before_turn turn q) ≡ None → is_on_line turn q ≡ true → TellsGone turn → get next.processes q ≡ None → Crossing world next turn q
+  Late : (start : Process) → get world.processes q ≡ Some start → turn.entry.pid ≡ q → is_on_line turn q ≡ true → TellsGone turn → IsDoomed world.kernel q turn.entry.tid → ((last : Process) → get next.processes q ≡ Some last → after_told start turn q ≡ Some last) → Crossing world next turn q
+  Dead : get world.processes q ≡ None → turn.entry.pid ≡ q → is_on_line turn q ≡ true → TellsGone turn → IsDoomed world.kernel q turn.entry.tid → get next.processes q ≡ None → Crossing world next turn q
   Passed : is_on_line turn q ≡ false → ((last : Process) → get next.processes q ≡ Some last → get world.processes q ≡ Some last) → Crossing world next turn q
 
 kept_some : (b : Bool) (found : Option Process) (last : Process) → cond b found None ≡ Some last → found ≡ Some last
@@ -113,9 +117,9 @@ passed_by world next entry turn t q m apart last e =
     sym (get-insert_other nat_cmp_total nat_cmp-IsAntisymmetric world.processes entry.pid t.own q (λ same. eqb-false entry.pid q apart (sym same)))
     ∙ unmade world next entry turn t q m last e
 
-turn_crosses : (world next : World) (entry : Entry) (turn : TakesTurn world entry) (t : Turned world next entry turn) (q : ℕ) → Crossing world next (told_turn world entry turn) q
-turn_crosses world next entry turn t q =
-    let stop : IsStop world.slice turn.process (told_turn world entry turn) = record { stopped = turn.stopped; asks = turn.asks; call = turn.call } in
+turn_crosses : (world next : World) (entry : Entry) (turn : TakesTurn world entry) (stands : Stands world) (t : Turned world next entry turn) (q : ℕ) → Crossing world next (told_turn world entry turn) q
+turn_crosses world next entry turn stands t q =
+    let stop : IsStop world.slice turn.process (told_turn world entry turn) = record { there = here world entry turn stands; stopped = turn.stopped; asks = turn.asks; call = turn.call } in
     elim (makes entry.outcome q) as (λ b. makes entry.outcome q ≡ b → Crossing world next (told_turn world entry turn) q) [
       | true ↦ λ m. Alive turn.process (ap (λ b. get world.processes (if b then entry.pid else q)) m ∙ turn.there) (or_right _ _ m) stop (by_maker world next entry turn t q m)
       | false ↦ λ m. elim (entry.pid == q) as (λ b. (entry.pid == q) ≡ b → Crossing world next (told_turn world entry turn) q) [
@@ -130,21 +134,39 @@ turn_crosses world next entry turn t q =
 abbrev told_gone : Entry → Told
 told_gone entry = record { entry = entry; request = plain_request no_call []; program = None }
 
-gone_crosses : (world next : World) (entry : Entry) → IsGone world entry → next.processes ≡ world.processes → DoomedAreDead world → (q : ℕ) → Crossing world next (told_gone entry) q
-gone_crosses world next entry gone same dead q =
+-- a thread that was ended is none of its process's
+not_there : (world : World) (stands : Stands world) (q tid : ℕ) (p : Process) → get world.processes q ≡ Some p → IsDoomed world.kernel q tid → get p.threads tid ≡ None
+not_there world stands q tid p at doomed = not_some (get p.threads tid) (stands.threads q tid p at ∙ ap is_live_at doomed)
+
+-- so its turn leaves the process
+gone_stays : (p : Process) (entry : Entry) (q : ℕ) → makes entry.outcome q ≡ false → entry.outcome ≡ GoneOutcome → entry.signal ≡ 0 → get p.threads entry.tid ≡ None → after_told p (told_gone entry) q ≡ Some p
+gone_stays p entry q none outcome signal absent =
+    ap (λ found. option_and_then (λ stopped. after_answer stopped (told_gone entry) q) (thread_after p (told_gone entry) found)) absent
+    ∙ ap (λ b. if b then made_process (made p entry.tid (plain_request no_call []) (answer_of (told_gone entry))) else apply p entry.tid (plain_request no_call []) (answer_of (told_gone entry))) none
+    ∙ ap (λ o. option_map (λ after. signalled after entry.tid entry.signal) (after_outcome p entry.tid (plain_request no_call []) None o)) outcome
+    ∙ ap (λ found. Some (signalled (if is_some found then without_threads p else p) entry.tid entry.signal)) absent
+    ∙ ap (λ n. Some (signalled p entry.tid n)) signal
+
+gone_crosses : (world next : World) (entry : Entry) → IsGone world entry → next.processes ≡ world.processes → Stands world → (q : ℕ) → Crossing world next (told_gone entry) q
+gone_crosses world next entry gone same stands q =
     let none : makes entry.outcome q ≡ false = ap (λ (e : Entry). makes e.outcome q) gone.tells in
-    let over : get world.processes entry.pid ≡ None = dead entry.pid entry.tid gone.doomed in
     elim (entry.pid == q) as (λ b. (entry.pid == q) ≡ b → Crossing world next (told_gone entry) q) [
-      | true ↦ λ here.
-          let at_q : get world.processes q ≡ None = ap (get world.processes) (sym (eqb-true entry.pid q here)) ∙ over in
-          Dead (ap (λ b. get world.processes (if b then entry.pid else q)) none ∙ at_q) (ap (λ b. b || makes entry.outcome q) here) gone.tells
-          (ap (λ (m : Processes). get m q) same ∙ at_q)
+      | true ↦ λ is.
+          let here : entry.pid ≡ q = eqb-true entry.pid q is in
+          let doomed : IsDoomed world.kernel q entry.tid = subst (λ p. IsDoomed world.kernel p entry.tid) here gone.doomed in
+          let on : is_on_line (told_gone entry) q ≡ true = ap (λ b. b || makes entry.outcome q) is in
+          elim (get world.processes q) as (λ found. get world.processes q ≡ found → Crossing world next (told_gone entry) q) [
+            | None ↦ λ e. Dead e here on gone.tells doomed (ap (λ (m : Processes). get m q) same ∙ e)
+            | Some start ↦ λ e. Late start e here on gone.tells doomed (λ last l.
+                gone_stays start entry q none (ap (λ (x : Entry). x.outcome) gone.tells) (ap (λ (x : Entry). x.signal) gone.tells) (not_there world stands q entry.tid start e doomed)
+                ∙ sym e ∙ ap (λ (m : Processes). get m q) (sym same) ∙ l)
+          ] refl
       | false ↦ λ apart. Passed (ap (λ b. b || makes entry.outcome q) apart ∙ none) (λ last e. ap (λ (m : Processes). get m q) (sym same) ∙ e)
     ] refl
 
-pub crosses : (world next : World) (entry : Entry) (leads : Leads world entry next) → DoomedAreDead world → (q : ℕ) → Crossing world next (told_by leads) q
-crosses world next entry (Turn running turn leads) dead q = turn_crosses world next entry turn (turned world next entry turn leads) q
-crosses world next entry (Gone running gone leads) dead q = gone_crosses world next entry gone (ap (λ (w : World). w.processes) leads) dead q
+pub crosses : (world next : World) (entry : Entry) (leads : Leads world entry next) → Stands world → (q : ℕ) → Crossing world next (told_by leads) q
+crosses world next entry (Turn running turn leads) stands q = turn_crosses world next entry turn stands (turned world next entry turn leads) q
+crosses world next entry (Gone running gone leads) stands q = gone_crosses world next entry gone (ap (λ (w : World). w.processes) leads) stands q
 
 pub slice_same : (world next : World) (entry : Entry) → Leads world entry next → next.slice ≡ world.slice
 slice_same world next entry (Turn running turn leads) = (turned world next entry turn leads).slice
@@ -152,15 +174,16 @@ slice_same world next entry (Gone running gone leads) = ap (λ (w : World). w.sl
 
 -- ---- no entry makes a process yet
 
-shape_makes_none : (kernel : Kernel) (pid tid : ℕ) (given : Answered) → Shape kernel pid tid given → (q : ℕ) → makes given.answer.outcome q ≡ false
-shape_makes_none kernel pid tid given (Replies errno bytes place elsewhere e) q = ap (λ (x : Answered). makes x.answer.outcome q) e
-shape_makes_none kernel pid tid given (Ends end e) q = ap (λ (x : Answered). makes x.answer.outcome q) e
-shape_makes_none kernel pid tid given (EndsThread e) q = ap (λ (x : Answered). makes x.answer.outcome q) e
-shape_makes_none kernel pid tid given (Goes e) q = ap (λ (x : Answered). makes x.answer.outcome q) e
+outcome_makes_none : (kernel : Kernel) (pid tid call : ℕ) (given : Answered) → Shape kernel pid tid call given → (q : ℕ) → makes given.answer.outcome q ≡ false
+outcome_makes_none kernel pid tid call given (Replies errno bytes place is s) q = ap (λ o. makes o q) is
+outcome_makes_none kernel pid tid call given (Waits r since is s) q = ap (λ o. makes o q) is
+outcome_makes_none kernel pid tid call given (Ends end is) q = ap (λ (x : Answered). makes x.answer.outcome q) is
+outcome_makes_none kernel pid tid call given (EndsThread is s) q = ap (λ o. makes o q) is
+outcome_makes_none kernel pid tid call given (Goes none is s) q = ap (λ o. makes o q) is
 
-pub makes_none : (world next : World) (entry : Entry) (leads : Leads world entry next) (q : ℕ) → makes (told_by leads).entry.outcome q ≡ false
-makes_none world next entry (Turn running turn leads) q =
+pub entry_makes_none : (world next : World) (entry : Entry) (leads : Leads world entry next) (q : ℕ) → makes (told_by leads).entry.outcome q ≡ false
+entry_makes_none world next entry (Turn running turn leads) q =
     let given : Answered = record { answer = turn.answer; kernel = turn.answered } in
     ap (λ o. makes o q) turn.outcome
-    ∙ shape_makes_none (risen world.kernel) entry.pid entry.tid given (answer_shape world.kernel entry.pid entry.tid turn.request given turn.answers) q
-makes_none world next entry (Gone running gone leads) q = ap (λ (e : Entry). makes e.outcome q) gone.tells
+    ∙ outcome_makes_none (risen world.kernel) entry.pid entry.tid turn.request.call given (answer_shape world.kernel entry.pid entry.tid turn.request given turn.answers) q
+entry_makes_none world next entry (Gone running gone leads) q = ap (λ (e : Entry). makes e.outcome q) gone.tells

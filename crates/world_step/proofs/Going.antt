@@ -2,7 +2,8 @@
 use Rattle.std.proofs.Common.{List, [], ◌∷◌, refl, subst}
 use Rattle.std.proofs.lemmas.Cmp.{nat_cmp_total}
 use Rattle.kernel_core.specs.Threads.{Fresh, Handed}
-use Rattle.kernel_core.proofs.Maps.{get-insert_same, thread_cmp_total}
+use Rattle.finite_maps.proofs.Lookups.{get-insert_same}
+use Rattle.kernel_core.proofs.ThreadOrder.{thread_cmp_total}
 use Rattle.wx_types.specs.declared.entries.Entry.{Entry}
 use Rattle.world_step.specs.Boot.{Boot, boot_world, first_process}
 use Rattle.world_step.specs.Laws.{RunsBegin, RunsGoOn, RunsAreCut}

@@ -9,7 +9,7 @@ use Rattle.tree_nodes.specs.Names.{NameMap}
 use Rattle.std.specs.FinMap.{get, insert, empty, get-insert}
 use Rattle.std.proofs.lemmas.Cmp.{nat_cmp_total, nat_list_cmp_total}
 use Rattle.file_tree.specs.FileTree.{only_root, new_node, root}
-use Rattle.kernel_core.proofs.Maps.{get-insert_same}
+use Rattle.finite_maps.proofs.Lookups.{get-insert_same}
 use Rattle.path_walk.specs.Paths.{PathParts, split_path}
 use Rattle.tree_nodes.specs.declared.node.Node.{Node}
 use Rattle.tree_nodes.specs.declared.node.Content.TheVariants.{File, Dir}

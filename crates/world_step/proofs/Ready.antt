@@ -6,7 +6,7 @@ use Rattle.kernel_core.specs.Kernel.{Kernel}
 use Rattle.kernel_core.specs.Rows.{risen}
 use Rattle.kernel_core.specs.Readiness.{SomeReady}
 use Rattle.kernel_core.specs.Settling.{settle}
-use Rattle.kernel_core.proofs.Ready.{settled_ready}
+use Rattle.kernel_core.proofs.Settled.{settled_ready}
 use Rattle.process.specs.Processes.{Processes}
 use Rattle.wx_types.specs.declared.entries.Entry.{Entry}
 use Rattle.world_step.specs.Boot.{boot_world}
@@ -15,7 +15,7 @@ use Rattle.world_step.specs.Leads.{Leads, Turn, Gone}
 use Rattle.world_step.specs.Run.{RunFrom}
 use Rattle.world_step.specs.World.{World}
 use Rattle.world_step.proofs.Going.{begins}
-use Rattle.process.proofs.Made.{mapped_from}
+use Rattle.finite_maps.proofs.Options.{mapped_from}
 
 settles : (kernel : Kernel) (world : World) → world.kernel ≡ settle kernel → world.kernel.ending ≡ Open → SomeReady world.kernel
 settles kernel world e running = subst SomeReady (sym e) (settled_ready kernel (ap (λ (k : Kernel). k.ending) (sym e) ∙ running))

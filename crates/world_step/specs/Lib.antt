@@ -5,5 +5,6 @@ pub mod Boot
 pub mod Run
 pub mod Stops
 pub mod Pipes
+pub mod Waiting
 pub mod Journal
 pub mod Laws

@@ -1,14 +1,12 @@
 -- What a history moves through a pipe.
 use Rattle.std.specs.Prelude.{◌≡◌, ℕ, ◌==◌, if◌then◌else◌, List, [], ◌∷◌, ◌++◌}
+use Rattle.kernel_core.specs.Answers.{fd_read}
 use Rattle.wasix_abi.specs.Requests.{fd_write}
 use Rattle.wx_types.specs.declared.entries.Entry.{Entry}
 use Rattle.wx_types.specs.declared.entries.Outcome.{Outcome}
 use Rattle.wx_types.specs.declared.entries.Outcome.TheVariants.{Reply}
 use Rattle.wx_types.specs.declared.entries.Place.{Place}
 use Rattle.wx_types.specs.declared.entries.Place.TheVariants.{Pipe}
-
-abbrev pub fd_read : ℕ
-fd_read = 16
 
 -- the bytes of a reply whose place is that pipe
 abbrev pub through : ℕ → Place → List ℕ → List ℕ
